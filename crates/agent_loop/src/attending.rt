@@ -43,7 +43,7 @@ pub(crate) fn begin_all<'s, 'e, R: Threads + Wait + Sync, G: Gate + Sync>(
     Ok(attendings)
 }
 
-/// Begins the work of an agent worker. Where no thread can be started for it, it is left to the end.
+/// Begins the work of an agent worker. If no thread can be started for it, it is left to the end.
 fn begin<'s, 'e, R: Threads + Wait + Sync, G: Gate + Sync>(
     scope: &'s Scope<'s, &'e ()>,
     rt: &'e R,
@@ -72,7 +72,7 @@ fn begin<'s, 'e, R: Threads + Wait + Sync, G: Gate + Sync>(
     }
 }
 
-/// The end of an agent worker's work, which is done here where it was left to the end.
+/// The end of an agent worker's work, which is done here if it was left to the end.
 fn end<R: Threads + Wait, G: Gate>(
     rt: &R,
     alloc: Global,

@@ -13,7 +13,7 @@ use flow_core::Cell;
 use flow_table::make_books;
 use std::alloc::Global;
 
-/// The books of flows, in order, once the work of each of their workers is done: each tells the history that the workers
+/// The books of flows, in order, once the work of each of their workers is done: each has the history that the workers
 /// left, with the caller's letters after it.
 pub(crate) fn books(
     alloc: Global,
@@ -26,6 +26,7 @@ pub(crate) fn books(
     ensures books { IfOk result (λ books. AreBooksOf (map case_of cells) books) }
     ensures led { IfOk result (λ books. AreLedTo HasNext cells (map flow_of books)) }
 {
+    // for the contract alone: the books are made once the crew's work is done
     drop(crew);
     make_books(alloc, cells)
 }

@@ -8,7 +8,6 @@ mod crew;
 mod nudge_sender;
 mod nudged_desk;
 mod run;
-mod serving;
 mod workers;
 
 use ccp_base::Sequence;

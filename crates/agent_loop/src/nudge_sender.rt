@@ -1,5 +1,6 @@
 //! Nudges that go through a channel.
 
+use ccp_base::NoMemory;
 use crossbeam_channel::Sender;
 use flow_table::Nudges;
 use std::alloc::Global;
@@ -12,6 +13,11 @@ pub(crate) struct NudgeSender {
 }
 
 impl Nudges for NudgeSender {
+    fn share(&self) -> Result<NudgeSender, NoMemory> {
+        let sender = self.sender.clone()?;
+        Ok(NudgeSender { sender })
+    }
+
     fn nudge<R: Wait>(&self, rt: &R, flow: u32) {
         // A nudge may get lost: what it points to is taken at the end.
         let _sent = self.sender.send(rt, flow);

@@ -91,7 +91,8 @@ impl<'a, R: Wait, G: Gate> AgentDesk for NudgedDesk<'a, R, G> {
     }
 }
 
-/// Settles the answer to the ticket that is out.
+/// Settles the answer if its ticket is out; else nothing changes.
+// for the prover: both outcomes meet in one clause over the flow, before it goes back to the desk
 fn settle_at(cell: &mut Cell, answer: Answer)
     ensures { HasSettled cell.old cell.new answer }
 {

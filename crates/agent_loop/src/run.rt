@@ -12,12 +12,12 @@ use std::alloc::Global;
 use std::sync::Wait;
 use std::thread::Threads;
 
-/// One book a case, in order, whatever the numbers of workers, and in whatever order threads take the flows' locks: each
-/// book has its case and a word that is legal and complete for it. No clause says which such word it is.
+/// One book a case, in order, whatever the numbers of workers, and in whatever order threads take the flows' locks:
+/// each book has its case and a word that is legal and complete for it. No clause says which such word it is.
 ///
 /// Datapath worker `d` takes the acknowledgements of the flows `f` with `f mod datapaths = d`, one of each in turn. It
 /// passes the gate at `BeforeAck` and `AfterAck` without a lock and at `InAck` with the flow's. Agent workers, whose
-/// numbers come after these, get a nudge where a report or a fault waits. For each nudge one of them takes a ticket,
+/// numbers come after these, get a nudge if a report or a fault waits. For each nudge one of them takes a ticket,
 /// passes `AfterTake`, works out the answer without a lock, settles it and passes `AfterSettle`. The caller does the
 /// work of a worker whose thread can't be started, that of an agent worker once the datapath workers are done, and at
 /// the end what they all leave.

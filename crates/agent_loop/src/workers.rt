@@ -2,19 +2,19 @@
 ghost use Rattle.std.specs.Prelude.{IfOk, length};
 ghost use Rattle.agent_loop.specs.Crews.{HasWorked};
 
+use crate::attending;
 use crate::crew::Crew;
 use crate::nudge_sender::NudgeSender;
-use crate::{attending, serving};
 use ccp_base::{Gate, NoMemory};
 use flow_core::Cell;
-use flow_table::{FlowTable, WorkerCounts, end_serving};
+use flow_table::{FlowTable, WorkerCounts, begin_serving, end_serving};
 use std::alloc::Global;
 use std::sync::Wait;
 use std::thread;
 use std::thread::Threads;
 
-/// The workers over the flows of a table, until the work of each of them is done. That of a datapath worker for which no
-/// thread can be started is done here at once, and that of such an agent worker once the datapath workers are done.
+/// The workers over the flows of a table, until the work of each of them is done. That of a datapath worker for which
+/// no thread can be started is done here at once, and that of such an agent worker once the datapath workers are done.
 pub(crate) fn work<R: Threads + Wait + Sync, G: Gate + Sync>(
     rt: &R,
     alloc: Global,
@@ -29,13 +29,14 @@ pub(crate) fn work<R: Threads + Wait + Sync, G: Gate + Sync>(
         thread::scope_env(),
         rt,
         move |scope| -> Result<Crew, NoMemory>
-            ensures { IfOk result (λ crew. HasWorked crew workers.datapaths.count workers.agents.count (length table.entry.now)) }
+            ensures { IfOk result (λ crew.
+                HasWorked crew workers.datapaths.count workers.agents.count (length table.entry.now)) }
         {
             let attendings = attending::begin_all(
                 scope, rt, alloc, table, workers, &receiver, gate,
             )?;
             let nudges = NudgeSender { sender };
-            let servings = serving::begin_all(
+            let servings = begin_serving(
                 scope,
                 rt,
                 alloc,
@@ -45,7 +46,7 @@ pub(crate) fn work<R: Threads + Wait + Sync, G: Gate + Sync>(
                 gate,
             )?;
             let served = end_serving(rt, alloc, servings)?;
-            // Agent workers end where the last sender is gone.
+            // Agent workers end when the last sender is gone.
             drop(nudges);
             let attended = attending::end_all(rt, alloc, table, attendings, &receiver, gate)?;
             Ok(Crew { served, attended })

@@ -1,4 +1,4 @@
--- Steps that lead on: where the rest leads, the whole leads.
+-- Steps that lead on: the whole leads to what the rest leads to.
 use Rattle.std.specs.Prelude.{◌≡◌, List, [], ◌∷◌, ◌++◌, length, refl}
 use Rattle.std.proofs.Common.{sym, subst, append_assoc, append-nil, arith}
 use Rattle.flow_table.specs.Led.{IsLedTo, AreLedTo}
@@ -14,7 +14,7 @@ module _ {X : Type 0} (Next : X → X → Type 0) where
   pub is-led : (first present : X) → LeadsOn first present → IsLedTo Next first present
   is-led first present leads = leads present (record { between = []; steps = refl })
 
-  -- where the rest is led to these, the whole is led to those that are done and these
+  -- if the rest is led to these, the whole is led to those that are done and these
   abbrev pub LeadOn : List X → List X → List X → Type 0
   LeadOn whole done left = (ends : List X) → AreLedTo Next left ends → AreLedTo Next whole (done ++ ends)
 

@@ -1,5 +1,5 @@
 -- Which letter may come, by what a cell answers, and that it brings the flow nearer to the end of its word.
-use Rattle.std.specs.Prelude.{◌≡◌, ◌≢◌, ℕ, ◌<◌, Bool, true, false, not, is_some, is_none, ◌&&◌, Option, Some, None, option_map, [], ◌∷◌, ◌++◌, length, refl}
+use Rattle.std.specs.Prelude.{◌≡◌, ◌≢◌, ℕ, ◌<◌, Bool, true, false, not, is_some, is_none, ◌&&◌, Option, Some, None, [], ◌∷◌, ◌++◌, length, refl}
 use Rattle.std.proofs.Common.{arith, ap, sym, ◌∙◌}
 use Rattle.agent_core.specs.declared.ticket.Ticket.{Ticket}
 use Rattle.flow_core.specs.declared.letter.Letter.{Letter}
@@ -10,18 +10,21 @@ use Rattle.flow_core.specs.Cells.{CellState, flow_at, world_at, ack_at, out_at}
 use Rattle.flow_core.specs.LettersLeft.{letters_left, left_at}
 use Rattle.flow_table.specs.NextLetter.{IsNearer, next_letter, next_at, with_letter}
 use Rattle.flow_core.proofs.LeftLemmas.{left-ack, left-take, left-answer}
+use Rattle.flow_core.proofs.MappedLemmas.{some-mapped, none-mapped}
 
 -- ---- the ticket that is out
 
-pub some-mapped : {X Y : Type 0} → (f : X → Y) (option : Option X) (y : Y) → option_map f option ≡ Some y → is_some option ≡ true
-some-mapped f None y is = absurd (let wrong : None ≡ Some y = is in (cc))
-some-mapped f (Some x) y is = refl
+some-out : (cell : CellState) (ticket : Ticket) → out_at cell ≡ Some ticket → is_some (world_at cell).out ≡ true
+some-out cell ticket out =
+    let w = world_at cell in
+    some-mapped (λ (taken : Taken ℕ). ticket_of (flow_at cell) w taken.told) w.out ∙ ap is_some out
 
-pub none-mapped : {X Y : Type 0} → (f : X → Y) (option : Option X) → option_map f option ≡ None → is_none option ≡ true
-none-mapped f None is = refl
-none-mapped f (Some x) is = absurd (let wrong : Some (f x) ≡ None = is in (cc))
+none-out : (cell : CellState) → out_at cell ≡ None → is_none (world_at cell).out ≡ true
+none-out cell none =
+    let w = world_at cell in
+    none-mapped (λ (taken : Taken ℕ). ticket_of (flow_at cell) w taken.told) w.out ∙ ap is_none none
 
--- something can be taken, where no ticket is out and not nothing is left
+-- something can be taken if no ticket is out and the flow isn't still
 pub may-take : (none can : Bool) → none ≡ true → (none && not can) ≢ true → (none && can) ≡ true
 may-take true true is left = refl
 may-take true false is left = absurd (left refl)
@@ -33,19 +36,19 @@ nothing-left true true still = absurd (let wrong : false ≡ true = still in (cc
 nothing-left true false still = refl
 nothing-left false can still = absurd (let wrong : false ≡ true = still in (cc))
 
--- acknowledgements are left, where a word that isn't complete has no ticket out and nothing to take
+-- acknowledgements are left if a word that isn't complete has no ticket out and nothing to take
 pub acks-left : (more none can : Bool) → (not more && (none && not can)) ≡ false → none ≡ true → can ≡ false → more ≡ true
 acks-left true none can complete is_none nothing = refl
 acks-left false true false complete is_none nothing = absurd (let wrong : true ≡ false = complete in (cc))
 acks-left false true true complete is_none nothing = absurd (let wrong : true ≡ false = nothing in (cc))
 acks-left false false can complete is_none nothing = absurd (let wrong : false ≡ true = is_none in (cc))
 
--- no ticket is out and not nothing is left: something can be taken
+-- no ticket is out and the flow isn't still: something can be taken
 pub may-be-taken : (cell : CellState) → out_at cell ≡ None → is_still (world_at cell) ≢ true
     → (is_none (world_at cell).out && can_take (world_at cell)) ≡ true
 may-be-taken cell none not_still =
     let w = world_at cell in
-    may-take (is_none w.out) (can_take w) (none-mapped (λ (ticket : Taken ℕ). ticket_of (flow_at cell) w ticket.told) w.out none) not_still
+    may-take (is_none w.out) (can_take w) (none-out cell none) not_still
 
 -- ---- which letter comes next
 
@@ -70,7 +73,7 @@ module _ (old new : CellState) where
   pub made-C : new ≡ with_letter Letter.C old → (ticket : Ticket) → out_at old ≡ Some ticket → new ≡ with_letter (next_at old) old
   made-C grown ticket out =
       let w = world_at old in
-      made old new Letter.C (next-C w.out (can_take w) (some-mapped (λ (t : Taken ℕ). ticket_of (flow_at old) w t.told) w.out ticket out)) grown
+      made old new Letter.C (next-C w.out (can_take w) (some-out old ticket out)) grown
 
   pub made-T : new ≡ with_letter Letter.T old → (is_none (world_at old).out && can_take (world_at old)) ≡ true → new ≡ with_letter (next_at old) old
   made-T grown may = made old new Letter.T (next-T (world_at old).out (can_take (world_at old)) may) grown
@@ -78,7 +81,7 @@ module _ (old new : CellState) where
   pub made-A : new ≡ with_letter Letter.A old → (out_at old ≡ None) × (can_take (world_at old) ≡ false) → new ≡ with_letter (next_at old) old
   made-A grown still =
       let w = world_at old in
-      made old new Letter.A (next-A w.out (can_take w) (none-mapped (λ (t : Taken ℕ). ticket_of (flow_at old) w t.told) w.out still.0) still.1) grown
+      made old new Letter.A (next-A w.out (can_take w) (none-out old still.0) still.1) grown
 
 -- ---- a letter
 
@@ -103,5 +106,4 @@ module _ (old new : CellState) where
       → (ticket : Ticket) → out_at old ≡ Some ticket → IsNearer old new
   nearer-C grown world ticket out =
       nearer old new Letter.C (after_answer (flow_at old) (world_at old)) grown world
-      (left-answer (flow_at old) (world_at old)
-      (some-mapped (λ (ticket : Taken ℕ). ticket_of (flow_at old) (world_at old) ticket.told) (world_at old).out ticket out))
+      (left-answer (flow_at old) (world_at old) (some-out old ticket out))

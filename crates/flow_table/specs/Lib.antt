@@ -1,7 +1,10 @@
 -- The definitions of flow_table, a file each.
-pub mod Duties
-pub mod Hearings
-pub mod HeldFlows
-pub mod Led
+
+-- those that contracts of public calls cite: what letters make of a flow, its book, and the duties of datapath workers
 pub mod NextLetter
+pub mod Hearings
 pub mod WholeBooks
+pub mod Led
+pub mod Duties
+-- those that only private contracts, invariants and proofs cite
+pub mod HeldFlows

@@ -17,7 +17,7 @@ next_letter true can = letters.C
 next_letter false true = letters.T
 next_letter false false = letters.A
 
--- the letter that the caller makes next: the answer to the ticket that is out, else a taking where something can be
+-- the letter that the caller makes next: the answer to the ticket that is out, else a taking if something can be
 -- taken, else an acknowledgement
 abbrev pub next_at : CellState → Letter
 next_at cell = next_letter (is_some (world_at cell).out) (can_take (world_at cell))

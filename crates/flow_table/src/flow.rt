@@ -27,7 +27,7 @@ pub trait LockedFlow: Drop {
     // the flow whose history a book tells
     ghost flow_in: { Self.Book → Self };
 
-    // the flow took its next acknowledgement, where one was left, and this is what it meant for a worker
+    // the flow took its next acknowledgement, if one was left, and this is what it meant for a worker
     ghost HasHeard: { Self → Self → Heard → Type 0 };
 
     // nothing is left to do
@@ -58,7 +58,8 @@ pub trait LockedFlow: Drop {
     fn is_of(&self, case: &Self::Case) -> bool
         ensures { IsTrue result ↔ (case_of self.now ≡ case.now) };
 
-    /// Takes the next acknowledgement, and gives what it means for a worker; Ended exactly where none is left.
+    /// Takes the next acknowledgement, and gives what it means for a worker: Ended if and only if none is left; nothing
+    /// changes then.
     fn hear(&mut self) -> Heard
         ensures case { case_of self.new ≡ case_of self.old }
         ensures heard { HasHeard self.old self.new result };

@@ -32,7 +32,7 @@ impl<F: LockedFlow> GuardedFlow<F> {
     }
 }
 
-/// The flow, where it is of this case; else a new one.
+/// The flow if it is of this case, else a new one.
 fn flow_of_case<F: LockedFlow>(alloc: Global, flow: F, case: &F::Case) -> Result<F, NoMemory>
     ensures case { IfOk result (λ flow. F.case_of flow ≡ case.now) }
     ensures kept { F.case_of flow ≡ case.now → result ≡ Ok flow }
@@ -45,6 +45,7 @@ fn flow_of_case<F: LockedFlow>(alloc: Global, flow: F, case: &F::Case) -> Result
 }
 
 /// A new flow of the case, in place of one of another.
+// for the prover: what drops a flow takes it, so that the branch that keeps the flow drops nothing
 fn fresh_flow<F: LockedFlow>(alloc: Global, flow: F, case: &F::Case) -> Result<F, NoMemory>
     ensures case { IfOk result (λ flow. F.case_of flow ≡ case.now) }
     ensures fresh { IfOk result (λ flow. flow ≡ F.fresh case.now) }

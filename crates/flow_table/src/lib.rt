@@ -20,6 +20,6 @@ pub use datapath::run_datapath_worker;
 pub use flow::LockedFlow;
 pub use held::Held;
 pub use nudges::{NoNudges, Nudges};
-pub use serving::{Serving, end_serving};
+pub use serving::{Serving, begin_serving, end_serving};
 pub use table::FlowTable;
 pub use workers::WorkerCounts;

@@ -90,6 +90,7 @@ fn news_of(acked: Acked) -> Heard
 }
 
 /// The book of a flow whose word is complete.
+// for the prover: here the clauses of `Cell::finish` become that of `IsWholeBook`, by a lemma
 fn whole_book(cell: Cell) -> Book
     requires { IsComplete cell }
     ensures case { result.case ≡ cell.case }

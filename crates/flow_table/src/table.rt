@@ -10,7 +10,7 @@ use std::alloc::Global;
 use std::marker::Model;
 use std::sync::{Mutex, Wait};
 
-/// Flows, a flow a case, each behind a lock of its own. Contracts see the list of the cases.
+/// Flows, a flow a case, each behind its own lock. Contracts see the list of the cases.
 #[derive(Drop)]
 pub struct FlowTable<F: LockedFlow> {
     flows: Vec<GuardedFlow<F>>,
@@ -82,8 +82,8 @@ impl<F: LockedFlow> FlowTable<F> {
         Held { flow, cell }
     }
 
-    /// The flows, each of its case, in order. A lock's type can't tell whose flow it keeps, so cases are compared: a flow
-    /// of its own case is handed on as its workers left it, which tests show, and one of another case is made anew.
+    /// The flows, each of its case, in order. A lock's type can't tell whose flow it keeps, so cases are compared: a
+    /// flow of its own case is handed on as its workers left it, which tests show, and one of another case is made anew.
     pub fn close(self, alloc: Global) -> Result<Sequence<F>, NoMemory>
         ensures { IfOk result (λ flows. map F.case_of flows ≡ self) }
     {

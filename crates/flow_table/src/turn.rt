@@ -39,7 +39,7 @@ fn settle(cell: &mut Cell, ticket: Ticket)
     };
 }
 
-/// Takes a ticket where one can be taken, and says whether it did.
+/// Takes a ticket if one can be taken, and says whether it did.
 fn take(alloc: Global, cell: &mut Cell) -> Result<bool, NoMemory>
     requires { out_at cell.old ≡ None }
     ensures made { result ≡ Ok true → IsNearer cell.old cell.new }
