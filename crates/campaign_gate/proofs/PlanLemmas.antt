@@ -1,5 +1,5 @@
 -- The campaign word of a flow is legal, and it is complete.
-use Rattle.std.specs.Prelude.{◌≡◌, ℕ, zero, suc, ◌-◌, ◌<◌, ◌≤◌, Bool, true, false, not, is_some, is_none, ◌&&◌, if◌then◌else◌, Option, Some, None, [], ◌∷◌, length, refl}
+use Rattle.std.specs.Prelude.{◌≡◌, ℕ, zero, suc, ◌-◌, ◌<◌, ◌≤◌, Bool, true, false, not, is_some, is_none, ◌&&◌, if◌then◌else◌, Option, Some, None, option_map, [], ◌∷◌, length, refl}
 use Rattle.std.proofs.Common.{arith, ap, ◌∙◌, subst}
 use Rattle.link_model.specs.declared.link_case.LinkCase.{LinkCase}
 use Rattle.flow_core.specs.declared.case.Case.{Case}
@@ -43,6 +43,21 @@ pub still : {X : Type 0} (out : Option (Taken X)) (can : Bool) → is_some out �
     → (is_none out && not can) ≡ true
 still None can out both = ap not both
 still (Some ticket) can out both = absurd (let wrong : true ≡ false = out in (cc))
+
+-- if a ticket may be taken, nothing is still
+pub takes-not-still : (none can : Bool) → (none && can) ≡ true → (none && not can) ≡ true → ⊥
+takes-not-still true true takes is = let wrong : false ≡ true = is in (cc)
+takes-not-still true false takes is = let wrong : false ≡ true = takes in (cc)
+takes-not-still false can takes is = let wrong : false ≡ true = takes in (cc)
+
+none-some : (number : ℕ) → None ≡ Some number → ⊥
+none-some number is = cc
+
+-- and no ticket is out
+pub takes-not-out : {X Y : Type 0} (f : X → Y) (g : Y → ℕ) (out : Option X) (can : Bool) (number : ℕ) → (is_none out && can) ≡ true
+    → option_map g (option_map f out) ≡ Some number → ⊥
+takes-not-out f g None can number takes is = none-some number is
+takes-not-out f g (Some ticket) can number takes is = let wrong : false ≡ true = takes in (cc)
 
 ended : {X : Type 0} (lag acks : ℕ) (more : Bool) (out : Option (Taken X)) (can : Bool)
     → (if more then is_late lag acks out else is_some out) ≡ false → (is_none out && can) ≡ false → more ≡ false

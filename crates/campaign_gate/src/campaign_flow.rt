@@ -75,8 +75,9 @@ impl CampaignFlow for Cell {
         match Cell::take(self, alloc) {
             Ok(_) => Ok(()),
             Err(TakeFault::NoMemory) => Err(NoMemory),
-            // A ticket is legal here.
-            Err(TakeFault::NotYet) | Err(TakeFault::Out(_)) => unreachable!(),
+            // A ticket is legal here: none is out, and something is left to take.
+            Err(TakeFault::NotYet) => unreachable!(),
+            Err(TakeFault::Out(_)) => unreachable!(),
         }
     }
 
