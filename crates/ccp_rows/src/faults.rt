@@ -1,4 +1,4 @@
-//! Each read and each write of a run fails in turn, where a call takes 16 bytes.
+//! Each read and each write of a run fails in turn. A call takes 16 bytes.
 use crate::feeds::{MEASURE, REPORTING, join_parts};
 use crate::runs::{FIRST_REPORT, FailingCalls, NONE_FAILS, ONE_CASE, run_on_words};
 use std::alloc::Global;
@@ -64,7 +64,8 @@ fn is_read_fault<R: Threads + Wait + Sync>(
     Ok(run.is(4, output, b"ccp: read fault\n") && run.programs == 0)
 }
 
-/// Whether a run whose write of this number fails ends so, and has written what came before, where this is the output.
+/// Whether a run whose write of this number fails ends with a write fault, and has written what came before of this
+/// output.
 fn is_write_fault<R: Threads + Wait + Sync>(
     rt: &R,
     alloc: Global,

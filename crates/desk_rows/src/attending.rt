@@ -19,7 +19,7 @@ struct TicketDesk<'a, R: Abort> {
     flows: u32,
     /// The numbers that are left, the next one last.
     numbers: Vec<u32>,
-    /// The tickets that are left, the next one last, None where none can be taken.
+    /// The tickets that are left, the next one last, None if none can be taken.
     tickets: Vec<Option<Ticket>>,
     events: Vec<Event>,
     held: Option<u32>,
@@ -134,7 +134,7 @@ fn ticket() -> Ticket {
     }
 }
 
-/// What worker 2 does that receives the numbers 1, 5 and 0, where there are two flows and nothing waits of flow 0.
+/// What worker 2 does if it receives the numbers 1, 5 and 0, with two flows, of which flow 0 has nothing to take.
 fn errands() -> [Event; 16] {
     [
         Event::Received(Some(1)),

@@ -128,7 +128,7 @@ impl<'a, R: Abort> InstallDesk for StepDesk<'a, R> {
     }
 }
 
-/// The next answer; no where none is left.
+/// The next answer; no if none is left.
 fn next(answers: &mut Vec<bool>) -> bool {
     match answers.pop() {
         Some(answer) => answer,

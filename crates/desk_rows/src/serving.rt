@@ -69,7 +69,7 @@ impl<'a, R: Abort> Desk for AnswerDesk<'a, R> {
     }
 }
 
-/// The next answer; Ended where none is left.
+/// The next answer; Ended if none is left.
 fn next(answers: &mut Vec<Heard>) -> Heard
     ensures { vec_len answers.new + heard_count result ≤ vec_len answers.old }
 {

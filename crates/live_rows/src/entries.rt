@@ -23,7 +23,7 @@ fn cell(alloc: Global, cases: &OpenCases) -> Result<OpenCell, Fail> {
     Ok(OpenCell::new(alloc, first(alloc, cases)?)?)
 }
 
-/// The step whose entry comes next instead of this one; None where this one is installed.
+/// The step whose entry comes next instead of this one; None if this one is installed.
 fn next_instead(cell: &mut OpenCell, entry: Entry) -> Option<u32> {
     match cell.install(entry) {
         Ok(()) => None,

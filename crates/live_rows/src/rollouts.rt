@@ -13,7 +13,7 @@ use std::sync::ledger::{Blank, Ledger};
 use std::test::Fail;
 
 /// Two flows over a trace with one chance each 10 ms, with windows of three segments and of two. The second step of the
-/// first flow takes 3 from 5 at each acknowledgement, and that of the second flow reports where two segments came.
+/// first flow takes 3 from 5 at each acknowledgement, and that of the second flow reports when two segments came.
 const TWO: &[u8] =
     b"{\"version\":1,\"programs\":{\"p\":\"(def) (when true (report))\",\"q\":\"(def (x 5)) (when true (:= x (- x 3)))\",\"r\":\"(def (Report (volatile acked 0))) (when true (:= Report.acked (+ Report.acked Ack.bytes_acked)) (fallthrough)) (when (> Report.acked 2000) (report))\"},\"traces\":{\"t\":\"10\\n\"},\"cases\":[{\"name\":\"a\",\"trace\":\"t\",\"mss\":1448,\"queue\":10,\"delay_us\":20000,\"timeout_us\":1000000,\"acks\":4,\"cwnd\":4344,\"steps\":[\"p\",\"q\"]},{\"name\":\"b\",\"trace\":\"t\",\"mss\":1448,\"queue\":10,\"delay_us\":20000,\"timeout_us\":1000000,\"acks\":3,\"cwnd\":2896,\"steps\":[\"p\",\"r\"]}]}";
 
