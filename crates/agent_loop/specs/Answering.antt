@@ -2,8 +2,7 @@
 use Rattle.std.specs.Prelude.{◌≡◌, ◌≢◌, Option, Some, None, IfSome}
 use Rattle.agent_core.specs.declared.ticket.Ticket.{Ticket}
 use Rattle.flow_core.specs.declared.letter.Letter.TheVariants.{T, C}
-use Rattle.flow_core.specs.Cells.{CellState, out_at}
-use Rattle.flow_table.specs.NextLetter.{with_letter}
+use Rattle.flow_core.specs.Cells.{CellState, out_at, with_letter}
 
 -- the ticket that was taken is out then; if none is taken, nothing changes
 abbrev pub HasTaken : CellState → CellState → Option Ticket → Type 0

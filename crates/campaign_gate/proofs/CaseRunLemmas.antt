@@ -12,7 +12,7 @@ use Rattle.flow_core.specs.WordLaws.{world-append}
 use Rattle.flow_core.specs.LettersLeft.{letters_left, left_at}
 use Rattle.flow_core.specs.States.{issued_as}
 use Rattle.flow_core.specs.Bares.{BareState}
-use Rattle.flow_core.specs.Cells.{CellState, flow_at, world_at, bare_at, ack_at}
+use Rattle.flow_core.specs.Cells.{CellState, flow_at, world_at, bare_at, ack_at, with_letter}
 use Rattle.flow_core.proofs.LeftLemmas.{left-letter}
 use Rattle.flow_core.proofs.MappedLemmas.{count-mapped}
 use Rattle.flow_core.proofs.SummaryLemmas.{summary-legal}
@@ -22,7 +22,7 @@ use Rattle.campaign_gate.specs.declared.sums.Sums.{Sums}
 use Rattle.campaign_gate.specs.CampaignWord.{is_late, first_letter, plan_from, plan}
 use Rattle.campaign_gate.specs.CampaignRow.{sums_of, sums_with, AreRoomy, peak_of}
 use Rattle.campaign_gate.specs.CampaignBooks.{planned}
-use Rattle.campaign_gate.specs.CaseRuns.{next_planned, plan_at, longer, left_in, due_to, next_in, MayMake, MayHear, Makes, sums_after, IsOnWay, IsNextLetter, Onward, IsEnded}
+use Rattle.campaign_gate.specs.CaseRuns.{next_planned, plan_at, left_in, due_to, next_in, MayMake, MayHear, Makes, sums_after, IsOnWay, IsNextLetter, Onward, IsEnded}
 use Rattle.campaign_gate.proofs.PlanLemmas.{next-legal, plan-next, plan-none}
 use Rattle.campaign_gate.proofs.PeakLemmas.{peak-append}
 use Rattle.campaign_gate.proofs.SumLemmas.{sums-append, roomy}
@@ -64,7 +64,7 @@ module _ (cell : CellState) where
   abbrev made : Letter → World ℕ
   made letter = after_letter flow (from_link flow cell.case.link) before letter
 
-  pub world-longer : (letter : Letter) → world_at (longer letter cell) ≡ made letter
+  pub world-longer : (letter : Letter) → world_at (with_letter letter cell) ≡ made letter
   world-longer letter = world-append flow cell.case.link cell.word letter
 
   sums-made : (letter : Letter) → sums_after letter cell (sums_of before.acks) ≡ sums_of (made letter).acks
@@ -76,13 +76,13 @@ module _ (cell : CellState) where
     may : is_legal flow before letter ≡ true
     may = next-legal flow cell.case.lag before letter next
 
-    pub fewer-longer : left_at (longer letter cell) < left_at cell
+    pub fewer-longer : left_at (with_letter letter cell) < left_at cell
     fewer-longer =
         subst (λ (w : World ℕ). letters_left flow w < letters_left flow before) (sym (world-longer letter))
         (left-letter flow cell.case.link letter before may)
 
     plan-longer : length cell.word + left_at cell ≤ most_letters cell.case.acks → cell.word ++ plan_at cell ≡ plan cell.case
-        → (cell.word ++ letter ∷ []) ++ plan_at (longer letter cell) ≡ plan cell.case
+        → (cell.word ++ letter ∷ []) ++ plan_at (with_letter letter cell) ≡ plan cell.case
     plan-longer left planned =
         let case = cell.case in
         let word = cell.word in
@@ -90,7 +90,7 @@ module _ (cell : CellState) where
         let fewer = fewer-longer in
         let some : 0 < most = omega (arith, fewer, left) in
         let one : most_letters case.acks - length (word ++ letter ∷ []) ≡ most - 1 = omega (arith, length-append word (letter ∷ [])) in
-        append_assoc word (letter ∷ []) (plan_at (longer letter cell))
+        append_assoc word (letter ∷ []) (plan_at (with_letter letter cell))
         ∙ (λ i. word ++ letter ∷ plan_from flow case.link case.lag (one i) (world-longer letter i))
         ∙ ap (λ (rest : List Letter). word ++ rest) (sym (plan-next flow case.lag case.link most before letter next some))
         ∙ planned
@@ -116,7 +116,7 @@ module _ {F : Type 0} (at : CellState → F) (bare_of : F → BareState) (law : 
     onward letter n new sums peak makes summed peaked =
         let on = n.on in
         let cell : CellState = record { case = case; word = on.word } in
-        let next = longer letter cell in
+        let next = with_letter letter cell in
         let made = makes cell on.after in
         let fewer = fewer-longer cell letter n.next in
         let left = on.left in

@@ -11,7 +11,7 @@ use Rattle.flow_core.specs.declared.letter.Letter.{Letter}
 use Rattle.flow_core.specs.declared.letter.Letter.TheVariants.{A, T, C}
 use Rattle.flow_core.specs.Readings.{over_codes}
 use Rattle.flow_core.specs.World.{World, after_take, after_answer}
-use Rattle.flow_core.specs.Cells.{CellState, flow_at, world_at, ack_at}
+use Rattle.flow_core.specs.Cells.{CellState, flow_at, world_at, ack_at, with_letter}
 use Rattle.flow_core.specs.Summaries.{Summary, summary, step_ack, step_take, step_answer}
 use Rattle.flow_core.specs.Bares.{BareState}
 use Rattle.flow_core.proofs.SummaryLemmas.{summary-ack, summary-take, summary-answer}
@@ -19,7 +19,7 @@ use Rattle.flow_core.proofs.WordLemmas.{take-keeps, answer-keeps}
 use Rattle.flow_core.proofs.LinkWordLemmas.{length-world, length-windows}
 use Rattle.campaign_gate.specs.declared.linked.Linked.{Linked}
 use Rattle.campaign_gate.specs.declared.listed.Listed.{Listed}
-use Rattle.campaign_gate.specs.CaseRuns.{longer, MayMake, Makes}
+use Rattle.campaign_gate.specs.CaseRuns.{MayMake, Makes}
 use Rattle.campaign_gate.specs.LinkedFlows.{linked_at, listed_at}
 use Rattle.campaign_gate.proofs.SumLemmas.{calls-run}
 use Rattle.campaign_gate.proofs.CaseRunLemmas.{world-longer}
@@ -31,21 +31,21 @@ with_summary linked step = record linked { bare = record linked.bare { summary =
 
 -- the link stays, and the summary is that of the next state
 stays : (cell : CellState) (letter : Letter) (next : World ℕ) (step : Case → Summary → Summary)
-    → world_at (longer letter cell) ≡ next → next.windows ≡ (world_at cell).windows
+    → world_at (with_letter letter cell) ≡ next → next.windows ≡ (world_at cell).windows
     → summary (flow_at cell) next ≡ step cell.case (summary (flow_at cell) (world_at cell))
-    → with_summary (linked_at cell) step ≡ linked_at (longer letter cell)
+    → with_summary (linked_at cell) step ≡ linked_at (with_letter letter cell)
 stays cell letter next step same windows stepped =
     let link = cell.case.link in
-    let summed : step cell.case (summary (flow_at cell) (world_at cell)) ≡ summary (flow_at cell) (world_at (longer letter cell)) =
+    let summed : step cell.case (summary (flow_at cell) (world_at cell)) ≡ summary (flow_at cell) (world_at (with_letter letter cell)) =
     sym stepped ∙ ap (summary (flow_at cell)) (sym same) in
-    let given : (world_at cell).windows ≡ (world_at (longer letter cell)).windows = sym windows ∙ ap (λ (w : World ℕ). w.windows) (sym same) in
+    let given : (world_at cell).windows ≡ (world_at (with_letter letter cell)).windows = sym windows ∙ ap (λ (w : World ℕ). w.windows) (sym same) in
     λ i. record {
       bare = record { case = cell.case; summary = summed i };
       link = record { case = link; standing = standing_of link (run_of link (given i)) };
     }
 
 makes-by : (letter : Letter) (old new : Linked) (step : Case → Summary → Summary) → new ≡ with_summary old step
-    → ((cell : CellState) → with_summary (linked_at cell) step ≡ linked_at (longer letter cell)) → Makes linked_at letter old new
+    → ((cell : CellState) → with_summary (linked_at cell) step ≡ linked_at (with_letter letter cell)) → Makes linked_at letter old new
 makes-by letter old new step is law cell at = is ∙ ap (λ (l : Linked). with_summary l step) at ∙ law cell
 
 -- a bare flow's step with the link as it is
@@ -96,7 +96,7 @@ module _ (old : Linked) (window : ℕ) (ack : Ack) (is_window : window ≡ old.b
   makes-A bare link stands same_link stepped cell is =
       let w = world_at cell in
       let flow = flow_at cell in
-      let next = world_at (longer A cell) in
+      let next = world_at (with_letter A cell) in
       let case : bare.case ≡ cell.case = ap (λ (b : BareState). b.case) stepped ∙ ap (λ (l : Linked). l.bare.case) is in
       let summed : bare.summary ≡ summary flow next =
       ap (λ (b : BareState). b.summary) stepped
@@ -121,14 +121,14 @@ may-linked letter listed may = record { cell = may.cell; after = ap (λ (l : Lis
 pub lists-T : (old : Listed) (linked : Linked) → Makes linked_at T old.linked linked → Makes listed_at T old (record { linked = linked; acks = old.acks })
 lists-T old linked makes cell is =
     let made = makes cell (ap (λ (l : Listed). l.linked) is) in
-    let acks : old.acks ≡ (world_at (longer T cell)).acks =
+    let acks : old.acks ≡ (world_at (with_letter T cell)).acks =
     ap (λ (l : Listed). l.acks) is ∙ sym (take-keeps (flow_at cell) (world_at cell)).acks ∙ ap (λ (w : World ℕ). w.acks) (sym (world-longer cell T)) in
     λ i. record { linked = made i; acks = acks i }
 
 pub lists-C : (old : Listed) (linked : Linked) → Makes linked_at C old.linked linked → Makes listed_at C old (record { linked = linked; acks = old.acks })
 lists-C old linked makes cell is =
     let made = makes cell (ap (λ (l : Listed). l.linked) is) in
-    let acks : old.acks ≡ (world_at (longer C cell)).acks =
+    let acks : old.acks ≡ (world_at (with_letter C cell)).acks =
     ap (λ (l : Listed). l.acks) is ∙ sym (answer-keeps (flow_at cell) (world_at cell)).acks ∙ ap (λ (w : World ℕ). w.acks) (sym (world-longer cell C)) in
     λ i. record { linked = made i; acks = acks i }
 
@@ -139,5 +139,5 @@ lists-A old linked list ack makes next put cell is =
     let at = ap (λ (l : Listed). l.linked) is in
     let made = makes cell at in
     let one : old.acks ++ ack ∷ [] ≡ (world_at cell).acks ++ ack_at cell ∷ [] = λ i. (is i).acks ++ next cell at i ∷ [] in
-    let acks : list ≡ (world_at (longer A cell)).acks = put ∙ one ∙ ap (λ (w : World ℕ). w.acks) (sym (world-longer cell A)) in
+    let acks : list ≡ (world_at (with_letter A cell)).acks = put ∙ one ∙ ap (λ (w : World ℕ). w.acks) (sym (world-longer cell A)) in
     λ i. record { linked = made i; acks = acks i }

@@ -9,7 +9,7 @@ use Rattle.flow_core.specs.Readings.{over_codes}
 use Rattle.flow_core.specs.States.{some_count}
 use Rattle.flow_core.specs.Summaries.{may_make}
 use Rattle.flow_core.specs.Bares.{BareState}
-use Rattle.flow_core.specs.Cells.{CellState, flow_at, world_at, ack_at}
+use Rattle.flow_core.specs.Cells.{CellState, flow_at, world_at, ack_at, with_letter}
 use Rattle.flow_core.specs.LettersLeft.{left_at}
 use Rattle.campaign_gate.specs.declared.sums.Sums.{Sums}
 use Rattle.campaign_gate.specs.declared.case_run.Tally.{Tally}
@@ -32,9 +32,6 @@ plan_at cell =
 -- a case without a letter
 abbrev pub opened : Case → CellState
 opened case = record { case = case; word = [] }
-
-abbrev pub longer : Letter → CellState → CellState
-longer letter cell = record { case = cell.case; word = cell.word ++ letter ∷ [] }
 
 -- how many letters the word can have yet
 abbrev pub left_in : BareState → ℕ
@@ -71,7 +68,7 @@ pub record MayHear {F : Type 0} (at : CellState → F) (flow : F) (sums : Sums) 
 
 -- one letter was made: after whatever word the old flow is, the new one is after that word and the letter
 abbrev pub Makes : {F : Type 0} → (CellState → F) → Letter → F → F → Type 0
-Makes at letter old new = (cell : CellState) → old ≡ at cell → new ≡ at (longer letter cell)
+Makes at letter old new = (cell : CellState) → old ≡ at cell → new ≡ at (with_letter letter cell)
 
 -- the flow is after a word that its campaign word goes on from, and what is kept beside it is that of this word
 pub record IsOnWay {F : Type 0} (at : CellState → F) (case : Case) (flow : F) (tally : Tally) : Type 0 where

@@ -2,9 +2,9 @@
 ghost use Rattle.std.specs.Prelude.{◌≡◌, true, refl, OnOk};
 ghost use Rattle.flow_core.specs.Words.{is_legal};
 ghost use Rattle.flow_core.specs.Bares.{BareState};
-ghost use Rattle.flow_core.specs.Cells.{CellState, flow_at, world_at, bare_at, ack_at};
+ghost use Rattle.flow_core.specs.Cells.{CellState, flow_at, world_at, bare_at, ack_at, with_letter};
 ghost use Rattle.campaign_gate.specs.CampaignRow.{sums_with};
-ghost use Rattle.campaign_gate.specs.CaseRuns.{longer, MayMake, MayHear, Makes};
+ghost use Rattle.campaign_gate.specs.CaseRuns.{MayMake, MayHear, Makes};
 
 use crate::sums::Sums;
 use agent_core::calls::answer;
@@ -49,7 +49,7 @@ pub(crate) trait CampaignFlow: Drop {
 /// cites its clauses.
 fn take_ack(cell: &mut Cell) -> Ack
     requires { is_legal (flow_at cell.old) (world_at cell.old) Letter.A ≡ true }
-    ensures made { cell.new ≡ longer Letter.A cell.old }
+    ensures made { cell.new ≡ with_letter Letter.A cell.old }
     ensures ack { result ≡ ack_at cell.old }
 {
     let Ok(_) = cell.hear() else { unreachable!() };

@@ -1,5 +1,5 @@
 -- A flow with its link: its case and its word.
-use Rattle.std.specs.Prelude.{◌≡◌, ℕ, ◌≤◌, Option, option_map, List, true, length}
+use Rattle.std.specs.Prelude.{◌≡◌, ℕ, ◌≤◌, Option, option_map, List, [], ◌∷◌, ◌++◌, true, length}
 use Rattle.ccp_base.specs.declared.ack.Ack.{Ack}
 use Rattle.ccp_base.specs.declared.place.Place.{Place}
 use Rattle.portus_core.specs.Programs.{Form}
@@ -23,6 +23,10 @@ use Rattle.flow_core.specs.Bares.{BareState}
 pub record CellState : Type 0 where
   pub case : Case
   pub word : List Letter
+
+-- the flow with one letter more
+abbrev pub with_letter : Letter → CellState → CellState
+with_letter letter cell = record cell { word = cell.word ++ letter ∷ [] }
 
 -- the flow, read over the codes of its case
 abbrev pub flow_at : CellState → Flow ℕ

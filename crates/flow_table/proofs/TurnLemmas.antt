@@ -6,9 +6,9 @@ use Rattle.flow_core.specs.declared.letter.Letter.{Letter}
 use Rattle.flow_core.specs.World.{Taken, World, after_ack, after_take, after_answer}
 use Rattle.flow_core.specs.Words.{can_take, is_still}
 use Rattle.flow_core.specs.Books.{ticket_of}
-use Rattle.flow_core.specs.Cells.{CellState, flow_at, world_at, ack_at, out_at}
+use Rattle.flow_core.specs.Cells.{CellState, flow_at, world_at, ack_at, out_at, with_letter}
 use Rattle.flow_core.specs.LettersLeft.{letters_left, left_at}
-use Rattle.flow_table.specs.NextLetter.{IsNearer, next_letter, next_at, with_letter}
+use Rattle.flow_table.specs.NextLetter.{IsNearer, next_letter, next_at}
 use Rattle.flow_core.proofs.LeftLemmas.{left-ack, left-take, left-answer}
 use Rattle.flow_core.proofs.MappedLemmas.{some-mapped, none-mapped}
 

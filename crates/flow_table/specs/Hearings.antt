@@ -6,8 +6,7 @@ use Rattle.worker_desk.specs.declared.event.Heard.{Heard}
 use Rattle.worker_desk.specs.declared.event.Heard.TheVariants.{Quiet, Reported, Faulted, Ended}
 use Rattle.flow_core.specs.declared.letter.Letter.TheVariants as letters
 use Rattle.flow_core.specs.Words.{is_legal}
-use Rattle.flow_core.specs.Cells.{CellState, flow_at, world_at, acked_at}
-use Rattle.flow_table.specs.NextLetter.{with_letter}
+use Rattle.flow_core.specs.Cells.{CellState, flow_at, world_at, acked_at, with_letter}
 
 -- the machine's answer, for a worker: whether something new waits for an agent
 abbrev pub heard_as : Acked → Heard

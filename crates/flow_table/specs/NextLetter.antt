@@ -1,9 +1,9 @@
 -- A flow comes nearer to the end of its word, letter by letter.
-use Rattle.std.specs.Prelude.{◌≡◌, ◌<◌, Bool, true, false, is_some, [], ◌∷◌, ◌++◌}
+use Rattle.std.specs.Prelude.{◌≡◌, ◌<◌, Bool, true, false, is_some}
 use Rattle.flow_core.specs.declared.letter.Letter.{Letter}
 use Rattle.flow_core.specs.declared.letter.Letter.TheVariants as letters
 use Rattle.flow_core.specs.Words.{can_take}
-use Rattle.flow_core.specs.Cells.{CellState, world_at}
+use Rattle.flow_core.specs.Cells.{CellState, world_at, with_letter}
 use Rattle.flow_core.specs.LettersLeft.{left_at}
 
 -- the same flow, of whose word fewer letters are left
@@ -21,10 +21,6 @@ next_letter false false = letters.A
 -- taken, else an acknowledgement
 abbrev pub next_at : CellState → Letter
 next_at cell = next_letter (is_some (world_at cell).out) (can_take (world_at cell))
-
--- the flow with one letter more
-abbrev pub with_letter : Letter → CellState → CellState
-with_letter letter cell = record cell { word = cell.word ++ letter ∷ [] }
 
 -- the flow has got the letter that the caller makes next
 abbrev pub HasNext : CellState → CellState → Type 0

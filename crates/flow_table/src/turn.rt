@@ -1,8 +1,8 @@
 //! The next letter of a live run's incomplete word: an answer if due, else a taking, else an acknowledgement.
 ghost use Rattle.std.specs.Prelude.{◌≡◌, ◌<◌, Ok, Some, None, true, false, length, OnOk};
 ghost use Rattle.flow_core.specs.Words.{can_take, is_complete};
-ghost use Rattle.flow_core.specs.Cells.{flow_at, world_at, out_at};
-ghost use Rattle.flow_table.specs.NextLetter.{IsNearer, next_at, with_letter};
+ghost use Rattle.flow_core.specs.Cells.{flow_at, world_at, out_at, with_letter};
+ghost use Rattle.flow_table.specs.NextLetter.{IsNearer, next_at};
 
 use agent_core::Ticket;
 use agent_core::calls::answer;
