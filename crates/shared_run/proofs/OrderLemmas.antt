@@ -1,8 +1,11 @@
 -- The parts of a round are dealt to the workers' orders one flow after another.
-use Rattle.std.specs.Prelude.{◌≡◌, ◌≢◌, ◌<◌, ℕ, ◌+◌, ◌%◌, suc, ◌==◌, Bool, true, false, Some, Result, Ok, Err, OnOk, List, [], ◌∷◌, ◌++◌, length, slice_get, refl}
+use Rattle.std.specs.Prelude.{◌≡◌, ◌≢◌, ◌<◌, ℕ, ◌+◌, ◌%◌, suc, ◌==◌, Bool, true, false, Some, Result, Ok, Err, OnOk}
+use Rattle.std.specs.Prelude.{List, [], ◌∷◌, ◌++◌, length, map, take, drop, slice_get, refl}
 use Rattle.std.specs.List.{filter, enumerate_from}
 use Rattle.std.proofs.Common.{arith, ap, sym, ◌∙◌, set, cond, append-nil, inl, inr}
 use Rattle.std.proofs.lemmas.Bool.Decides.{eqb_tells}
+use Rattle.std.proofs.Math.Seq.{take-length, drop-length}
+use Rattle.std.proofs.lemmas.List.{length-map}
 use Rattle.std.proofs.lemmas.List.Elements.{filter-append}
 use Rattle.std.proofs.lemmas.Option.{slice_get_within}
 use Rattle.std.proofs.Math.Nat.{mod-lt}
@@ -107,3 +110,16 @@ AreOpen workers count orders = (worker : ℕ) → worker < count → slice_get o
 pub on_ok : {A E P Q : Type 0} (result : Result A E) → (P → Q) → OnOk result P → OnOk result Q
 on_ok (Ok value) follows holds = follows holds
 on_ok (Err fault) follows holds = tt
+
+-- ---- parts that are done
+
+-- what a list is mapped to stays, if a slice of all of it is mapped to the same
+pub maps-as-before : {X : Type 0} (n : ℕ) (items new : List X) (f : X → FlowPart) → n ≡ length items → map f new ≡ map f items
+    → map f (take n (new ++ drop (length new) items)) ≡ map f items
+maps-as-before n items new f is same =
+    let long : length new ≡ length items = sym (length-map f new) ∙ ap length same ∙ length-map f items in
+    let none : drop (length new) items ≡ [] = ap (λ (k : ℕ). drop k items) long ∙ drop-length items in
+    let all : new ++ drop (length new) items ≡ new = ap (λ (xs : List _). new ++ xs) none ∙ append-nil new in
+    let front : take n (new ++ drop (length new) items) ≡ new =
+        ap (λ (xs : List _). take n xs) all ∙ ap (λ (k : ℕ). take k new) (is ∙ sym long) ∙ take-length new in
+    ap (map f) front ∙ same
