@@ -1,4 +1,4 @@
--- Threads may share a table of flows, and a book may go from one to another.
+-- A table of flows may be shared by threads.
 use denote.Struct.Declared.{shape}
 use denote.Param.Send.{IsSend, recorded_send, struct_send, sendable}
 use Rattle.std.proofs.Crossing.{crosses}
@@ -13,7 +13,6 @@ use Rattle.fold_machine.specs.contracts.machine.Machine as Machine
 use Rattle.link_model.specs.contracts.link.Link as Link
 use Rattle.link_model.proofs.link.Link.TheSendSync as link
 use Rattle.live_install.specs.contracts.entry.Entry as Entry
-use Rattle.live_install.specs.contracts.book.OpenBook as Book
 use Rattle.live_install.specs.contracts.cell.OpenCell as Cell
 
 cmd-send : IsSend Cmd.the_row
@@ -47,6 +46,3 @@ link-send = link.the_send
 
 pub cell-send : IsSend Cell.the_row
 cell-send = search (entry-send, machine-send, link-send, crosses, sendable) depth 60 fits 20000
-
-pub book-send : IsSend Book.the_row
-book-send = search (entry-send, machine-send, crosses, knot.crosses, sendable) depth 60 fits 20000

@@ -7,6 +7,7 @@ mod book;
 mod books;
 mod cell;
 mod crew;
+mod datapath_threads;
 mod entry;
 mod entry_lines;
 mod install_desk;

@@ -4,9 +4,9 @@ ghost use Rattle.live_install.specs.Crews.{HasWorked};
 
 use crate::cell::OpenCell;
 use crate::crew::Crew;
-use crate::installer_threads;
+use crate::{datapath_threads, installer_threads};
 use ccp_base::{Gate, NoMemory};
-use flow_table::{FlowTable, NoNudges, WorkerCounts, begin_serving, end_serving};
+use flow_table::{FlowTable, WorkerCounts, end_serving};
 use std::alloc::Global;
 use std::sync::Wait;
 use std::thread;
@@ -31,13 +31,12 @@ pub(crate) fn run_workers<R: Threads + Wait + Sync, G: Gate + Sync>(
                 HasWorked crew workers.datapaths.count workers.agents.count (length table.entry.now)) }
         {
             let works = installer_threads::begin_all(scope, rt, alloc, table, workers, gate)?;
-            let servings = begin_serving(
+            let servings = datapath_threads::begin_all(
                 scope,
                 rt,
                 alloc,
                 table,
                 workers.datapaths,
-                &NoNudges,
                 gate,
             )?;
             let equipped = installer_threads::end_all(rt, alloc, works)?;

@@ -8,7 +8,7 @@ use Rattle.shared_link.specs.declared.round.Ask.{Ask}
 use Rattle.shared_link.specs.declared.shared_case.SharedCase.{SharedCase}
 use Rattle.shared_link.specs.SharedRounds.{ask_at, sent_by, round_givens, shared_run_of, acks_of_givens, acks_after}
 use Rattle.shared_run.specs.SharedHistory.{asks_of}
-use Rattle.shared_run.proofs.AnswerLemmas.{round-few, each-length, each-get, no-some}
+use Rattle.shared_run.proofs.AnswerLemmas.{round-few, each-length, each-get, no-some, same-some}
 
 -- a flow has no more acknowledgements than its case
 abbrev pub KeepsCount : CoreState → Type 0

@@ -117,7 +117,7 @@ on_ok (Err fault) follows holds = tt
 pub maps-as-before : {X : Type 0} (n : ℕ) (items new : List X) (f : X → FlowPart) → n ≡ length items → map f new ≡ map f items
     → map f (take n (new ++ drop (length new) items)) ≡ map f items
 maps-as-before n items new f is same =
-    let long : length new ≡ length items = sym (length-map f new) ∙ ap length same ∙ length-map f items in
+    let long : length new ≡ length items = sym (length-map new f) ∙ ap length same ∙ length-map items f in
     let none : drop (length new) items ≡ [] = ap (λ (k : ℕ). drop k items) long ∙ drop-length items in
     let all : new ++ drop (length new) items ≡ new = ap (λ (xs : List _). new ++ xs) none ∙ append-nil new in
     let front : take n (new ++ drop (length new) items) ≡ new =
