@@ -121,5 +121,5 @@ maps-as-before n items new f is same =
     let none : drop (length new) items ≡ [] = ap (λ (k : ℕ). drop k items) long ∙ drop-length items in
     let all : new ++ drop (length new) items ≡ new = ap (λ (xs : List _). new ++ xs) none ∙ append-nil new in
     let front : take n (new ++ drop (length new) items) ≡ new =
-        ap (λ (xs : List _). take n xs) all ∙ ap (λ (k : ℕ). take k new) (is ∙ sym long) ∙ take-length new in
+    ap (λ (xs : List _). take n xs) all ∙ ap (λ (k : ℕ). take k new) (is ∙ sym long) ∙ take-length new in
     ap (map f) front ∙ same

@@ -10,6 +10,8 @@ invariant_of-self-inside g c =
     let items = order.parts.items in
     let is : order.parts.len ≡ length items = search rules in
     let same : map {B = FlowPart} (λ part. (part.acks.number, part.acks.acks)) c.do_all.new.parts
-        ≡ map {B = FlowPart} (λ part. (part.acks.number, part.acks.acks)) items = search rules in
-    (subst (λ (xs : List FlowPart). All (λ (part : FlowPart). part.0 % order.workers ≡ order.worker) xs)
-     (sym (maps-as-before order.parts.len items c.do_all.new.parts (λ part. (part.acks.number, part.acks.acks)) is same)) order.own, tt)
+    ≡ map {B = FlowPart} (λ part. (part.acks.number, part.acks.acks)) items = search rules in (
+      subst (λ (xs : List FlowPart). All (λ (part : FlowPart). part.0 % order.workers ≡ order.worker) xs)
+          (sym (maps-as-before order.parts.len items c.do_all.new.parts (λ part. (part.acks.number, part.acks.acks)) is same)) order.own,
+      tt,
+    )
