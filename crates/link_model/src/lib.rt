@@ -8,7 +8,6 @@ mod link;
 mod link_case;
 mod past;
 mod queue;
-mod rates;
 mod rules;
 mod trace;
 mod trace_text;

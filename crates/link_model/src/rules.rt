@@ -2,14 +2,13 @@
 ghost use Rattle.std.specs.Prelude.{◌≡◌, ℕ, ◌<◌, ◌≤◌, List, length, slice_index};
 ghost use Rattle.std.specs.List.Sorted.{IsStrictlyIncreasing};
 ghost use Rattle.ccp_base.specs.Limits.{most_flight, most_segment_bytes};
-ghost use Rattle.link_model.specs.Link.{allowance_of, allowance, is_marked, is_listed, number_if, arrival_ack_of, timeout_ack_of, timeout_ack, run_of};
+ghost use Rattle.link_model.specs.Link.{allowance_of, allowance, byte_rate, is_marked, is_listed, number_if, arrival_ack_of, timeout_ack_of, timeout_ack, run_of};
 ghost use Rattle.link_model.specs.Standing.{packet_ack};
 ghost use Rattle.link_model.specs.Counts.{AreOnce, AddUp, most_packets};
 
 use crate::arrival::Arrival;
 use crate::link_case::LinkCase;
 use crate::past::Past;
-use crate::rates::Rates;
 use crate::traffic::PACKETS;
 use ccp_base::Ack;
 
@@ -101,6 +100,19 @@ pub fn allowance(mss: u32, window: u64) -> u64
     (window / u64::from(mss)).max(1).min(PACKETS as u64)
 }
 
+/// The rate in bytes a second of `packets` packets of `mss` bytes from time 0 to `now`, in microseconds; 0 at time 0.
+#[inline]
+fn rate(mss: u32, packets: u64, now: u64) -> u64
+    requires mss { mss ≤ most_segment_bytes }
+    requires packets { packets ≤ most_packets }
+    ensures { result ≡ byte_rate mss packets now }
+{
+    if now == 0 {
+        return 0;
+    }
+    u64::from(mss) * packets * 1_000_000 / now
+}
+
 /// Whether a packet is marked if `queued` packets wait when it is sent: at least `mark` of them mean a mark.
 #[inline]
 pub fn is_marked(mark: Option<u32>, queued: u128) -> bool
@@ -125,7 +137,6 @@ pub fn arrival_ack(mss: u32, arrival: Arrival, past: Past, stay: u64, acked: u64
 {
     let _ = past;
     let bytes = u64::from(mss);
-    let rates = Rates::at(mss, acked, sent, arrival.at);
     Ack {
         bytes_acked: bytes,
         packets_acked: 1,
@@ -138,8 +149,8 @@ pub fn arrival_ack(mss: u32, arrival: Arrival, past: Past, stay: u64, acked: u64
         bytes_in_flight: bytes * stay,
         packets_in_flight: stay,
         bytes_pending: 0,
-        rate_incoming: rates.incoming,
-        rate_outgoing: rates.outgoing,
+        rate_incoming: rate(mss, acked, arrival.at),
+        rate_outgoing: rate(mss, sent, arrival.at),
         rtt_sample_us: arrival.at - arrival.sent_at,
         was_timeout: false,
     }
@@ -153,12 +164,11 @@ pub fn timeout_ack(mss: u32, now: u64, past: Past, lost: u64, acked: u64, sent: 
     requires sent { sent ≤ most_packets }
     ensures { result ≡ timeout_ack_of mss now past lost 0 acked sent }
 {
-    let rates = Rates::at(mss, acked, sent, now);
     Ack {
         lost_pkts_sample: lost,
         now,
-        rate_incoming: rates.incoming,
-        rate_outgoing: rates.outgoing,
+        rate_incoming: rate(mss, acked, now),
+        rate_outgoing: rate(mss, sent, now),
         rtt_sample_us: past.rtt_sample_us,
         was_timeout: true,
         ..Ack::default()
