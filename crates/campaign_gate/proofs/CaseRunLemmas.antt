@@ -17,7 +17,7 @@ use Rattle.flow_core.proofs.LeftLemmas.{left-letter}
 use Rattle.flow_core.proofs.MappedLemmas.{count-mapped}
 use Rattle.flow_core.proofs.SummaryLemmas.{summary-legal}
 use Rattle.flow_core.proofs.WordLemmas.{take-keeps, answer-keeps}
-use Rattle.campaign_gate.specs.declared.case_run.Tally.{Tally}
+use Rattle.campaign_gate.specs.declared.tally.Tally.{Tally}
 use Rattle.campaign_gate.specs.declared.sums.Sums.{Sums}
 use Rattle.campaign_gate.specs.CampaignWord.{is_late, first_letter, plan_from, plan}
 use Rattle.campaign_gate.specs.CampaignRow.{sums_of, sums_with, AreRoomy, peak_of}

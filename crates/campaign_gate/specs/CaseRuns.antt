@@ -12,7 +12,7 @@ use Rattle.flow_core.specs.Bares.{BareState}
 use Rattle.flow_core.specs.Cells.{CellState, flow_at, world_at, ack_at, with_letter}
 use Rattle.flow_core.specs.LettersLeft.{left_at}
 use Rattle.campaign_gate.specs.declared.sums.Sums.{Sums}
-use Rattle.campaign_gate.specs.declared.case_run.Tally.{Tally}
+use Rattle.campaign_gate.specs.declared.tally.Tally.{Tally}
 use Rattle.campaign_gate.specs.CampaignWord.{first_letter, next_of, plan_from, plan}
 use Rattle.campaign_gate.specs.CampaignRow.{sums_of, sums_with, AreRoomy, peak_of}
 use Rattle.campaign_gate.specs.CampaignBooks.{planned}

@@ -14,7 +14,7 @@ ghost use Rattle.campaign_gate.specs.LinkedFlows.{linked_at};
 use crate::campaign_flow::CampaignFlow;
 use crate::linked::Linked;
 use crate::row::Row;
-use crate::sums::Sums;
+use crate::tally::Tally;
 use ccp_base::NoMemory;
 use flow_core::{Bare, Letter};
 use std::alloc::Global;
@@ -53,14 +53,6 @@ pub(crate) fn next_letter(bare: &Bare) -> Option<Letter>
     None
 }
 
-/// What a row needs of the letters so far, beside what later letters depend on.
-#[derive(Clone, Copy)]
-pub struct Tally {
-    pub sums: Sums,
-    /// The greatest window so far, in bytes.
-    pub peak: u64,
-}
-
 /// A flow on the way along its campaign word, with its tally.
 #[derive(Drop)]
 pub(crate) struct CaseRun<F: CampaignFlow> {
@@ -75,14 +67,8 @@ impl<F: CampaignFlow> CaseRun<F> {
         ensures flow { result.flow ≡ flow }
         ensures on { IsOnWay F.at (F.bare_of flow).case result.flow result.tally }
     {
-        let peak = flow.bare().cwnd();
-        CaseRun {
-            flow,
-            tally: Tally {
-                sums: Sums::none(),
-                peak,
-            },
-        }
+        let tally = Tally::opening(flow.bare());
+        CaseRun { flow, tally }
     }
 
     /// Makes this letter, which is the next one.
@@ -91,7 +77,7 @@ impl<F: CampaignFlow> CaseRun<F> {
         ensures { OnOk result (Onward F.at F.bare_of self.old.flow self.new.flow self.new.tally) }
     {
         self.grow(alloc, letter)?;
-        self.tally.peak = self.tally.peak.max(self.flow.bare().cwnd());
+        self.tally.raise_peak(self.flow.bare());
         Ok(())
     }
 

@@ -14,10 +14,12 @@ mod queue;
 mod row;
 mod share;
 mod sums;
+mod tally;
 mod workers;
 
 pub use calls::{Books, CaseAcks, Cases};
-pub use case_run::{Tally, is_due};
+pub use case_run::is_due;
 pub use laws::row_law;
 pub use row::{Column, Row, Rows};
 pub use sums::Sums;
+pub use tally::Tally;

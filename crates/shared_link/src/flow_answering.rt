@@ -7,10 +7,11 @@ ghost use Rattle.shared_link.specs.Kept.{flow_under_way, answered_in, IsFlowKept
 
 use crate::flow_sending::PACKETS;
 use crate::flow_traffic::FlowTraffic;
+use crate::packed_ack::{PackedAck, PackedAcks};
 use crate::shared_case::FlowLink;
-use ccp_base::{Acks, NoMemory, Sequence};
+use ccp_base::NoMemory;
 use circular_buffer::HeapCircularBuffer;
-use link_model::{Arrival, Past, arrival_ack, timeout_ack};
+use link_model::{Arrival, Past};
 use std::alloc::{AllocError, Global};
 
 impl FlowTraffic {
@@ -47,7 +48,7 @@ impl FlowTraffic {
     }
 
     /// Keeps the memory of a list that the flow was given.
-    pub(crate) fn keep_list(&mut self, link: &FlowLink, list: Acks)
+    pub(crate) fn keep_list(&mut self, link: &FlowLink, list: PackedAcks)
         requires kept { IsFlowKept link.now self.old }
         ensures kept { IsFlowKept link.now self.new }
         ensures standing { flow_under_way self.new ≡ flow_under_way self.old }
@@ -62,7 +63,7 @@ impl FlowTraffic {
     }
 
     /// Takes the acknowledgements of the round out.
-    pub(crate) fn take_acks(&mut self, alloc: Global, link: &FlowLink) -> Acks
+    pub(crate) fn take_acks(&mut self, alloc: Global, link: &FlowLink) -> PackedAcks
         requires kept { IsFlowKept link.now self.old }
         ensures kept { IsFlowKept link.now self.new }
         ensures standing { flow_under_way self.new ≡ flow_under_way self.old }
@@ -73,7 +74,7 @@ impl FlowTraffic {
     {
         // for the contract alone: what holds of a flow depends on its listed losses
         let _ = link;
-        Sequence::from_vec(std::mem::replace(&mut self.acks, Vec::new(alloc)))
+        PackedAcks::from_vec(std::mem::replace(&mut self.acks, Vec::new(alloc)))
     }
 
     /// Acknowledges the packets that arrive before `end`, in microseconds, at most `left`. If the flow has an
@@ -144,15 +145,10 @@ impl FlowTraffic {
         self.acked += 1;
         self.gone += arrival.lost;
         self.time = arrival.at;
-        let ack = arrival_ack(
-            link.mss,
-            arrival,
-            self.past,
-            self.in_flight,
-            self.acked,
-            self.sent,
-        );
-        self.past = Past::after(&ack);
+        self.past = Past {
+            rtt_sample_us: arrival.at - arrival.sent_at,
+        };
+        let ack = PackedAck::of_arrival(link.mss, arrival, self.in_flight, self.acked, self.sent);
         self.acks.push_reserved(ack);
     }
 
@@ -182,8 +178,8 @@ impl FlowTraffic {
         self.since = 0;
         self.in_flight = 0;
         self.gone += lost;
-        let ack = timeout_ack(link.mss, now, self.past, lost, self.acked, self.sent);
-        self.past = Past::after(&ack);
+        // a timeout has no sample of its own, so what is past stays
+        let ack = PackedAck::of_timeout(link.mss, now, self.past, lost, self.acked, self.sent);
         self.acks.push_reserved(ack);
     }
 }

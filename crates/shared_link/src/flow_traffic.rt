@@ -1,5 +1,5 @@
 //! What is under way of one flow on a shared link, and its counts of packets.
-use ccp_base::Ack;
+use crate::packed_ack::PackedAck;
 use circular_buffer::HeapCircularBuffer;
 use link_model::{Arrival, Past};
 
@@ -29,5 +29,5 @@ pub(crate) struct FlowTraffic {
     /// How many listed losses are known to have numbers below the next packet's.
     pub(crate) passed: usize,
     /// Its acknowledgements in the present round.
-    pub(crate) acks: Vec<Ack>,
+    pub(crate) acks: Vec<PackedAck>,
 }

@@ -10,10 +10,11 @@ ghost use Rattle.shared_link.specs.KeptFlows.{IsReadyAt, HasRoomAt, AreOthersKep
 
 use crate::flow_sending::PACKETS;
 use crate::flow_traffic::FlowTraffic;
+use crate::packed_ack::PackedAcks;
 use crate::round::{Ask, Counts};
 use crate::sending::Sending;
 use crate::shared_case::{FlowLink, SharedCase};
-use ccp_base::{Acks, NoMemory};
+use ccp_base::NoMemory;
 use link_model::allowance;
 use std::alloc::Global;
 
@@ -193,7 +194,13 @@ impl Flows {
     }
 
     /// Keeps the memory of a list that a flow was given.
-    pub(crate) fn keep_list(&mut self, case: &SharedCase, rounds: u32, flow: usize, list: Acks)
+    pub(crate) fn keep_list(
+        &mut self,
+        case: &SharedCase,
+        rounds: u32,
+        flow: usize,
+        list: PackedAcks,
+    )
         requires ready { AreReady case.now rounds self.old.traffic.items }
         requires flow { flow < length self.old.traffic.items }
         ensures ready { AreReady case.now rounds self.new.traffic.items }
@@ -212,7 +219,7 @@ impl Flows {
         rounds: u32,
         end: u64,
         flow: usize,
-    ) -> Acks
+    ) -> PackedAcks
         requires case { IsWithin case.now }
         requires asks { length asks.now ≡ length case.now.flows }
         requires count { length self.old.traffic.items ≡ length case.now.flows }
@@ -243,7 +250,7 @@ impl Flows {
         asks: &[Ask],
         rounds: u32,
         end: u64,
-        answers: &mut Vec<Acks>,
+        answers: &mut Vec<PackedAcks>,
     )
         requires valid { IsTrace case.now.trace }
         requires case { IsWithin case.now }

@@ -6,11 +6,13 @@ mod flow_sending;
 mod flow_traffic;
 mod flows;
 mod laws;
+mod packed_ack;
 mod round;
 mod sending;
 mod shared_case;
 mod shared_link;
 
+pub use packed_ack::{PackedAck, PackedAcks};
 pub use round::{Ask, Counts};
 pub use shared_case::{FlowLink, FlowLinks, SharedCase};
 pub use shared_link::{AckLists, SharedLink};

@@ -7,16 +7,17 @@ ghost use Rattle.shared_link.specs.SharedRounds.{acks_after, counts_of};
 ghost use Rattle.shared_link.specs.SharedStanding.{Stands};
 
 use crate::flows::Flows;
+use crate::packed_ack::PackedAcks;
 use crate::round::{Ask, Counts};
 use crate::sending::Sending;
 use crate::shared_case::SharedCase;
-use ccp_base::{Acks, NoMemory, Sequence};
+use ccp_base::{NoMemory, Sequence};
 use link_model::Chance;
 use std::alloc::Global;
 use std::marker::Model;
 
 /// Acknowledgements of flows, in the order of the flows.
-pub type AckLists = Sequence<Acks>;
+pub type AckLists = Sequence<PackedAcks>;
 
 /// A link that several flows share. It keeps no list of the rounds that it was given; contracts say for which lists it
 /// stands.
@@ -94,7 +95,7 @@ impl SharedLink {
     }
 
     /// Takes back a list that `round` gave a flow, whose memory serves the flow's next list. The link is as before.
-    pub fn give_back(&mut self, flow: u32, list: Acks)
+    pub fn give_back(&mut self, flow: u32, list: PackedAcks)
         ensures unchanged { self.new ≡ self.old }
     {
         let flow = flow as usize;

@@ -6,21 +6,21 @@ use Rattle.flow_core.specs.declared.book.Given.{Given}
 use Rattle.flow_core.specs.Readings.{over_codes}
 use Rattle.flow_core.specs.Words.{is_still}
 use Rattle.flow_core.specs.Cores.{CoreState}
-use Rattle.campaign_gate.specs.declared.case_run.Tally.{Tally}
+use Rattle.campaign_gate.specs.declared.tally.Tally.{Tally}
 use Rattle.campaign_gate.specs.declared.row.Row.{Row}
 use Rattle.shared_run.specs.RoundLetters.{world_of_core, closed_flow}
 use Rattle.shared_run.specs.FlowRow.{flow_row}
-use Rattle.shared_run.specs.RoundFlows.{IsWhole, AreWhole, kept_at, IsAfter}
+use Rattle.shared_run.specs.RoundFlows.{HasAllAcks, HaveAllAcks, kept_at, IsAfterHistory}
 use Rattle.shared_run.specs.SharedBooks.{IsGivenOf, AreGivensOf}
 use Rattle.shared_run.proofs.CourseLemmas.{no-cons, same-first, same-rest}
 use Rattle.shared_run.proofs.TurnLemmas.{closed-still}
 
 module _ {F : Type 0} (at : CoreState → F) where
   -- the flow and the tally that are kept are after the history
-  pub after-kept : (core : CoreState) (flow : F) (tally : Tally) → IsWhole core → kept_at at core ≡ (flow, tally) → IsAfter at core flow tally
+  pub after-kept : (core : CoreState) (flow : F) (tally : Tally) → HasAllAcks core → kept_at at core ≡ (flow, tally) → IsAfterHistory at core flow tally
   after-kept core flow tally whole is = record { whole = whole; flow_is = ap (λ kept. kept.0) (sym is); tally_is = ap (λ kept. kept.1) (sym is) }
 
-  pub kept-after : (core : CoreState) (flow : F) (tally : Tally) → IsAfter at core flow tally → kept_at at core ≡ (flow, tally)
+  pub kept-after : (core : CoreState) (flow : F) (tally : Tally) → IsAfterHistory at core flow tally → kept_at at core ≡ (flow, tally)
   kept-after core flow tally after = λ i. (sym after.flow_is i, sym after.tally_is i)
 
   -- ---- the rows
@@ -28,17 +28,17 @@ module _ {F : Type 0} (at : CoreState → F) where
   -- these flows are left of those after the histories, and the rows of the others are made
   abbrev pub RowsLeft : List CoreState → List (F × Tally) → List Row → Type 0
   RowsLeft cores rest rows =
-      (left : List CoreState) × AreWhole left × (rest ≡ map (kept_at at) left) × (rows ++ map (flow_row over_codes) left ≡ map (flow_row over_codes) cores)
+      (left : List CoreState) × HaveAllAcks left × (rest ≡ map (kept_at at) left) × (rows ++ map (flow_row over_codes) left ≡ map (flow_row over_codes) cores)
 
   abbrev pub LeavesRows : List (F × Tally) → List (F × Tally) → List Row → Type 0
-  LeavesRows all rest rows = (cores : List CoreState) → AreWhole cores → all ≡ map (kept_at at) cores → RowsLeft cores rest rows
+  LeavesRows all rest rows = (cores : List CoreState) → HaveAllAcks cores → all ≡ map (kept_at at) cores → RowsLeft cores rest rows
 
   pub rows-first : (all : List (F × Tally)) (rows : List Row) → rows ≡ [] → LeavesRows all all rows
   rows-first all rows none cores whole is = (cores, whole, is, ap (λ (made : List Row). made ++ map (flow_row over_codes) cores) none)
 
   rows-where : (cores left : List CoreState) (flow : F) (tally : Tally) (later : List (F × Tally)) (rows : List Row) (row : Row)
-      → ((core : CoreState) → IsAfter at core flow tally → row ≡ flow_row over_codes core)
-      → AreWhole left → (flow, tally) ∷ later ≡ map (kept_at at) left → rows ++ map (flow_row over_codes) left ≡ map (flow_row over_codes) cores
+      → ((core : CoreState) → IsAfterHistory at core flow tally → row ≡ flow_row over_codes core)
+      → HaveAllAcks left → (flow, tally) ∷ later ≡ map (kept_at at) left → rows ++ map (flow_row over_codes) left ≡ map (flow_row over_codes) cores
       → RowsLeft cores later (rows ++ row ∷ [])
   rows-where cores [] flow tally later rows row reads whole is made = absurd (no-cons (flow, tally) later is)
   rows-where cores (core ∷ left) flow tally later rows row reads whole is made =
@@ -52,7 +52,7 @@ module _ {F : Type 0} (at : CoreState → F) where
       )
 
   pub rows-next : (all rest later : List (F × Tally)) (flow : F) (tally : Tally) (rows : List Row) (row : Row) (longer : List Row)
-      → ((core : CoreState) → IsAfter at core flow tally → row ≡ flow_row over_codes core)
+      → ((core : CoreState) → IsAfterHistory at core flow tally → row ≡ flow_row over_codes core)
       → rest ≡ (flow, tally) ∷ later → longer ≡ rows ++ row ∷ [] → LeavesRows all rest rows → LeavesRows all later longer
   rows-next all rest later flow tally rows row longer reads split pushed leaves cores whole is =
       let here = leaves cores whole is in
@@ -65,7 +65,7 @@ module _ {F : Type 0} (at : CoreState → F) where
   rows-end cores (core ∷ left) rows is made = absurd (no-cons (kept_at at core) (map (kept_at at) left) (sym is))
 
   pub rows-last : (all rest : List (F × Tally)) (rows : List Row) → rest ≡ [] → LeavesRows all rest rows
-      → (cores : List CoreState) → AreWhole cores → all ≡ map (kept_at at) cores → rows ≡ map (flow_row over_codes) cores
+      → (cores : List CoreState) → HaveAllAcks cores → all ≡ map (kept_at at) cores → rows ≡ map (flow_row over_codes) cores
   rows-last all rest rows none leaves cores whole is =
       let here = leaves cores whole is in
       rows-end cores here.0 rows (sym none ∙ here.2) here.3

@@ -13,7 +13,7 @@ use Rattle.shared_run.specs.RoundLetters.{opened, closed_flow}
 use Rattle.shared_run.specs.FlowRow.{AreRoomy}
 use Rattle.shared_run.specs.SharedHistory.{Progress, asks_of, parts, after_round}
 use Rattle.shared_run.specs.Courses.{run_after, flows_after}
-use Rattle.shared_run.specs.RoundFlows.{IsWhole, AreWhole}
+use Rattle.shared_run.specs.RoundFlows.{HasAllAcks, HaveAllAcks}
 use Rattle.shared_run.proofs.TurnLemmas.{part-case, part-acks, part-all, settled-acks, settled-case, settled-all}
 use Rattle.shared_run.proofs.AnswerLemmas.{AreSmall, AreAllSmall, after-all-small, no-some, same-some}
 use Rattle.shared_run.proofs.CountLemmas.{KeepCounts, Within, within-after}
@@ -117,7 +117,7 @@ module _ (link : SharedCase) (cases : List Case) where
 
 -- ---- the words have all acknowledgements
 
-parts-whole : (lists : List (List Ack)) (flows : List CoreState) → Within lists flows → AreWhole flows → AreWhole (parts over_codes lists flows)
+parts-whole : (lists : List (List Ack)) (flows : List CoreState) → Within lists flows → HaveAllAcks flows → HaveAllAcks (parts over_codes lists flows)
 parts-whole [] flows within whole = whole
 parts-whole (acks ∷ others) [] within whole = tt
 parts-whole (acks ∷ others) (core ∷ rest) within whole =
@@ -131,11 +131,11 @@ parts-whole (acks ∷ others) (core ∷ rest) within whole =
       parts-whole others rest within.1 whole.1,
     )
 
-opened-whole : (cases : List Case) → AreWhole (map opened cases)
+opened-whole : (cases : List Case) → HaveAllAcks (map opened cases)
 opened-whole [] = tt
 opened-whole (case ∷ rest) = (record { all = refl; within = omega arith }, opened-whole rest)
 
-closed-whole : (flows : List CoreState) → AreWhole flows → AreWhole (map (closed_flow over_codes) flows)
+closed-whole : (flows : List CoreState) → HaveAllAcks flows → HaveAllAcks (map (closed_flow over_codes) flows)
 closed-whole [] whole = tt
 closed-whole (core ∷ rest) whole =
     let acks = ap (λ (xs : List Ack). length xs) (settled-acks over_codes true core) in
@@ -145,22 +145,22 @@ closed-whole (core ∷ rest) whole =
       closed-whole rest whole.1,
     )
 
-whole-at : (flows : List CoreState) → AreWhole flows → (number : ℕ) (core : CoreState) → slice_get flows number ≡ Some core → IsWhole core
+whole-at : (flows : List CoreState) → HaveAllAcks flows → (number : ℕ) (core : CoreState) → slice_get flows number ≡ Some core → HasAllAcks core
 whole-at [] whole number core at = absurd (no-some core at)
-whole-at (first ∷ rest) whole zero core at = subst (λ (one : CoreState). IsWhole one) (same-some first core at) whole.0
+whole-at (first ∷ rest) whole zero core at = subst (λ (one : CoreState). HasAllAcks one) (same-some first core at) whole.0
 whole-at (first ∷ rest) whole (suc number) core at = whole-at rest whole.1 number core at
 
 module _ (link : SharedCase) (cases : List Case) where
-  pub flows-whole : (rounds : ℕ) → AreWhole (flows_after link cases rounds)
+  pub flows-whole : (rounds : ℕ) → HaveAllAcks (flows_after link cases rounds)
   flows-whole zero = opened-whole cases
   flows-whole (suc rounds) =
       let run = run_after link over_codes cases rounds in
       parts-whole (acks_after link run.history (asks_of over_codes run.flows)) run.flows
       (within-after link run.history run.flows (flows-keep link cases rounds)) (flows-whole rounds)
 
-  pub flow-whole : (rounds number : ℕ) (core : CoreState) → slice_get (flows_after link cases rounds) number ≡ Some core → IsWhole core
+  pub flow-whole : (rounds number : ℕ) (core : CoreState) → slice_get (flows_after link cases rounds) number ≡ Some core → HasAllAcks core
   flow-whole rounds number core at = whole-at (flows_after link cases rounds) (flows-whole rounds) number core at
 
   -- at the end of the run
-  pub ends-whole : (rounds : ℕ) → AreWhole (map (closed_flow over_codes) (flows_after link cases rounds))
+  pub ends-whole : (rounds : ℕ) → HaveAllAcks (map (closed_flow over_codes) (flows_after link cases rounds))
   ends-whole rounds = closed-whole (flows_after link cases rounds) (flows-whole rounds)

@@ -18,7 +18,7 @@ use Rattle.flow_core.specs.Bares.{BareState}
 use Rattle.flow_core.proofs.MappedLemmas.{count-mapped}
 use Rattle.flow_core.proofs.SummaryLemmas.{summary-ack, summary-take, summary-answer, summary-legal}
 use Rattle.flow_core.proofs.WordLemmas.{acks-of-world_over, world_over-A}
-use Rattle.campaign_gate.specs.declared.case_run.Tally.{Tally}
+use Rattle.campaign_gate.specs.declared.tally.Tally.{Tally}
 use Rattle.campaign_gate.specs.declared.row.Row.{Row}
 use Rattle.campaign_gate.specs.declared.sums.Sums.{Sums}
 use Rattle.campaign_gate.specs.CampaignWord.{is_answer_due}
@@ -31,7 +31,7 @@ use Rattle.shared_link.specs.declared.round.Ask.{Ask}
 use Rattle.shared_run.specs.RoundLetters.{world_of_core, with_letter, answers_next, after_settling, with_settled_ack, round_part}
 use Rattle.shared_run.specs.SharedHistory.{ask_of}
 use Rattle.shared_run.specs.FlowRow.{peak_of, flow_row, AreRoomy}
-use Rattle.shared_run.specs.RoundFlows.{IsWhole, bare_after, MayMake, Makes, tally_of, IsAfter, HasHistory, MayHear, Goes, Took, MakesNext}
+use Rattle.shared_run.specs.RoundFlows.{HasAllAcks, bare_after, MayMake, Makes, tally_of, IsAfterHistory, HasHistory, MayHear, Goes, Took, MakesNext}
 use Rattle.shared_run.proofs.PeakLemmas.{peak-more}
 use Rattle.shared_run.proofs.TurnLemmas.{next-C, next-T, next-none, answer-legal, fewer, settled-turn, settled-none, settled-acks, settled-case}
 
@@ -66,7 +66,7 @@ module _ (core : CoreState) where
     summary = (ap (summary reading) (world_over-append reading core.acks core.word C) ∙ summary-answer reading world) i;
   }
 
-  module _ (whole : IsWhole core) where
+  module _ (whole : HasAllAcks core) where
     pub acks-world : world.acks ≡ core.acks
     acks-world = acks-of-world_over reading core.acks core.word whole.all
 
@@ -76,13 +76,13 @@ module _ (core : CoreState) where
       summary = (ap (summary reading) (world_over-A reading core.acks ack core.word whole.all) ∙ summary-ack reading ack world) i;
     }
 
-    pub whole-ack : (ack : Ack) → length core.acks < core.case.acks → IsWhole (with_ack core ack)
+    pub whole-ack : (ack : Ack) → length core.acks < core.case.acks → HasAllAcks (with_ack core ack)
     whole-ack ack more = record {
       all = acks_in-A core.word ∙ ap (λ (n : ℕ). n + 1) whole.all ∙ sym (length-append core.acks (ack ∷ []));
       within = omega (arith, more, length-append core.acks (ack ∷ []));
     }
 
-    pub whole-letter : (letter : Letter) → acks_in (core.word ++ letter ∷ []) ≡ acks_in core.word → IsWhole (with_letter letter core)
+    pub whole-letter : (letter : Letter) → acks_in (core.word ++ letter ∷ []) ≡ acks_in core.word → HasAllAcks (with_letter letter core)
     whole-letter letter none = record { all = none ∙ whole.all; within = whole.within }
 
     -- the tally with one more acknowledgement
@@ -183,7 +183,7 @@ module _ {F : Type 0} (at : CoreState → F) where
 
   -- and then the others, after what is taken and answered
   pub hears-rest : (acks rest : List Ack) (ack : Ack) (flow : F) (tally : Tally) (new : F) (now : Tally) → acks ≡ ack ∷ rest
-      → MayHear at acks flow tally → ((core : CoreState) → IsAfter at core flow tally → IsAfter at (with_settled_ack over_codes ack core) new now)
+      → MayHear at acks flow tally → ((core : CoreState) → IsAfterHistory at core flow tally → IsAfterHistory at (with_settled_ack over_codes ack core) new now)
       → MayHear at rest new now
   hears-rest acks rest ack flow tally new now split may goes =
       let core = may.core in
@@ -208,7 +208,7 @@ module _ {F : Type 0} (at : CoreState → F) where
   -- the flow is after some history from which the same comes as from every history that the old flow was after
   abbrev pub GoesOn : (CoreState → CoreState) → (CoreState → CoreState) → F → Tally → F → Tally → Type 0
   GoesOn all rest old was new now =
-      (core : CoreState) → IsAfter at core old was → (here : CoreState) × IsAfter at here new now × (rest here ≡ all core)
+      (core : CoreState) → IsAfterHistory at core old was → (here : CoreState) × IsAfterHistory at here new now × (rest here ≡ all core)
 
 module _ {F : Type 0} (at : CoreState → F) (bare_of : F → BareState) (law : (core : CoreState) → bare_of (at core) ≡ bare_after core) where
   pub is-bare : (flow : F) (core : CoreState) → flow ≡ at core → bare_of flow ≡ bare_after core
@@ -250,12 +250,12 @@ module _ {F : Type 0} (at : CoreState → F) (bare_of : F → BareState) (law : 
         }
 
     module _ (bare : BareState) (is : bare ≡ bare_of old) where
-      pub bare-at : (core : CoreState) → IsAfter at core old was → bare ≡ bare_after core
+      pub bare-at : (core : CoreState) → IsAfterHistory at core old was → bare ≡ bare_after core
       bare-at core after = is ∙ is-bare old core after.flow_is
 
       -- what it asks for
       pub asks : (ask : Ask) → ask ≡ record { window = bare.summary.track.env.cwnd; left = bare.case.acks - bare.summary.acks }
-          → (core : CoreState) → IsAfter at core old was → ask ≡ ask_of over_codes core
+          → (core : CoreState) → IsAfterHistory at core old was → ask ≡ ask_of over_codes core
       asks ask asked core after =
           asked
           ∙ (λ i. record { window = (bare-at core after i).summary.track.env.cwnd; left = (bare-at core after i).case.acks - (bare-at core after i).summary.acks })
@@ -265,7 +265,7 @@ module _ {F : Type 0} (at : CoreState → F) (bare_of : F → BareState) (law : 
           })
 
       -- whether a letter is legal
-      pub legal-is : (letter : Letter) (core : CoreState) → IsAfter at core old was
+      pub legal-is : (letter : Letter) (core : CoreState) → IsAfterHistory at core old was
           → may_make (over_codes bare.case) bare.summary letter ≡ is_legal (over_codes core.case) (world_of_core over_codes core) letter
       legal-is letter core after =
           ap (λ (b : BareState). may_make (over_codes b.case) b.summary letter) (bare-at core after)
@@ -274,7 +274,7 @@ module _ {F : Type 0} (at : CoreState → F) (bare_of : F → BareState) (law : 
       -- whether an answer is due
       pub due-is : (due : Bool)
           → ((w : World ℕ) → bare.summary ≡ summary (over_codes bare.case) w → due ≡ is_answer_due (over_codes bare.case) bare.case.lag w)
-          → (core : CoreState) → IsAfter at core old was → due ≡ answers_next false over_codes core
+          → (core : CoreState) → IsAfterHistory at core old was → due ≡ answers_next false over_codes core
       due-is due tells core after =
           let w = world_of_core over_codes core in
           let case : bare.case ≡ core.case = ap (λ (b : BareState). b.case) (bare-at core after) in
@@ -282,7 +282,7 @@ module _ {F : Type 0} (at : CoreState → F) (bare_of : F → BareState) (law : 
           ∙ ap (λ (one : Case). is_answer_due (over_codes one) one.lag w) case
 
       -- its row
-      pub row-is : (row : Row) → row ≡ row_in bare.summary was.sums was.peak → (core : CoreState) → IsAfter at core old was → row ≡ flow_row over_codes core
+      pub row-is : (row : Row) → row ≡ row_in bare.summary was.sums was.peak → (core : CoreState) → IsAfterHistory at core old was → row ≡ flow_row over_codes core
       row-is row read core after =
           read
           ∙ (λ i. row_in (bare-at core after i).summary (after.tally_is i).sums (after.tally_is i).peak)
@@ -303,25 +303,25 @@ module _ {F : Type 0} (at : CoreState → F) (bare_of : F → BareState) (law : 
 module _ {F : Type 0} (at : CoreState → F) where
   -- if an answer comes next it is legal
   pub may-C : (at_end : Bool) (flow : F) (tally : Tally) → HasHistory at flow tally
-      → ((core : CoreState) → IsAfter at core flow tally → answers_next at_end over_codes core ≡ true) → MayMake at C flow
+      → ((core : CoreState) → IsAfterHistory at core flow tally → answers_next at_end over_codes core ≡ true) → MayMake at C flow
   may-C at_end flow tally has due =
       let core = has.core in
       record { core = core; whole = has.after.whole; after = has.after.flow_is; legal = answer-legal over_codes at_end core (due core has.after) }
 
   pub may-T : (flow : F) (tally : Tally) → HasHistory at flow tally
-      → ((core : CoreState) → IsAfter at core flow tally → is_legal (over_codes core.case) (world_of_core over_codes core) T ≡ true) → MayMake at T flow
+      → ((core : CoreState) → IsAfterHistory at core flow tally → is_legal (over_codes core.case) (world_of_core over_codes core) T ≡ true) → MayMake at T flow
   may-T flow tally has may =
       let core = has.core in
       record { core = core; whole = has.after.whole; after = has.after.flow_is; legal = may core has.after }
 
   module _ (at_end : Bool) (old : F) (was : Tally) (new : F) (now : Tally) where
     -- the answer that comes next was made
-    pub next-answer : ((core : CoreState) → IsAfter at core old was → answers_next at_end over_codes core ≡ true)
+    pub next-answer : ((core : CoreState) → IsAfterHistory at core old was → answers_next at_end over_codes core ≡ true)
         → Goes at (with_letter C) old was new now → MakesNext at at_end true old was new now
     next-answer due goes core after = (C, next-C over_codes at_end core (due core after), goes core after)
 
     -- no answer comes next, and a ticket was taken if that is legal
-    pub next-taking : (took : Bool) → ((core : CoreState) → IsAfter at core old was → answers_next at_end over_codes core ≡ false)
+    pub next-taking : (took : Bool) → ((core : CoreState) → IsAfterHistory at core old was → answers_next at_end over_codes core ≡ false)
         → Took at took old was new now → MakesNext at at_end took old was new now
     next-taking true due taken =
         (λ core after.
@@ -351,12 +351,12 @@ module _ {F : Type 0} (at : CoreState → F) where
     turned-last first begun on made core after =
         let here = on core after in
         let none = made here.0 here.1 in
-        subst (λ (c : CoreState). IsAfter at c new now) (sym (settled-none over_codes at_end here.0 none.0) ∙ here.2) none.1
+        subst (λ (c : CoreState). IsAfterHistory at c new now) (sym (settled-none over_codes at_end here.0 none.0) ∙ here.2) none.1
 
   -- the part's loop after one more acknowledgement
   pub part-on : (acks left rest : List Ack) (ack : Ack) (first : F) (begun : Tally) (old : F) (was : Tally) (new : F) (now : Tally) → left ≡ ack ∷ rest
       → GoesOn at (round_part over_codes acks) (round_part over_codes left) first begun old was
-      → ((core : CoreState) → IsAfter at core old was → IsAfter at (with_settled_ack over_codes ack core) new now)
+      → ((core : CoreState) → IsAfterHistory at core old was → IsAfterHistory at (with_settled_ack over_codes ack core) new now)
       → GoesOn at (round_part over_codes acks) (round_part over_codes rest) first begun new now
   part-on acks left rest ack first begun old was new now split on goes core after =
       let here = on core after in (
@@ -370,7 +370,7 @@ module _ {F : Type 0} (at : CoreState → F) where
       → Goes at (round_part over_codes acks) first begun new now
   part-done acks left first begun new now none on core after =
       let here = on core after in
-      subst (λ (c : CoreState). IsAfter at c new now) (ap (λ (xs : List Ack). round_part over_codes xs here.0) (sym none) ∙ here.2) here.1
+      subst (λ (c : CoreState). IsAfterHistory at c new now) (ap (λ (xs : List Ack). round_part over_codes xs here.0) (sym none) ∙ here.2) here.1
 
 -- ---- a flow without its history
 

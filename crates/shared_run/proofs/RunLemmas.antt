@@ -14,7 +14,7 @@ use Rattle.shared_link.specs.SharedStanding.{SharedState, Stands}
 use Rattle.shared_run.specs.RoundLetters.{closed_flow}
 use Rattle.shared_run.specs.SharedHistory.{Progress, round_limit, whole_run, flows_at_end, shared_counts}
 use Rattle.shared_run.specs.Courses.{run_after, flows_after, HasEnded}
-use Rattle.shared_run.specs.RoundFlows.{AreWhole}
+use Rattle.shared_run.specs.RoundFlows.{HaveAllAcks}
 use Rattle.shared_run.proofs.BookLemmas.{AreStill, still-closed}
 use Rattle.shared_run.proofs.CourseLemmas.{ends}
 use Rattle.shared_run.proofs.RoomyLemmas.{ends-whole}
@@ -44,10 +44,10 @@ module _ (link : SharedCase) (cases : List Case) (most rounds : ℕ) (state : Sh
       ∙ ap (λ (run : Progress). counts_of link run.history) whole
 
 -- at the end the words of the flows have all acknowledgements
-pub run-whole : (link : SharedCase) (cases : List Case) (most : ℕ) → AreWhole (flows_at_end link over_codes cases most)
+pub run-whole : (link : SharedCase) (cases : List Case) (most : ℕ) → HaveAllAcks (flows_at_end link over_codes cases most)
 run-whole link cases most =
     let end = ends link cases most in
-    subst (λ (run : Progress). AreWhole (map (closed_flow over_codes) run.flows)) (sym end.1.run) (ends-whole link cases end.0)
+    subst (λ (run : Progress). HaveAllAcks (map (closed_flow over_codes) run.flows)) (sym end.1.run) (ends-whole link cases end.0)
 
 pub run-still : (link : SharedCase) (cases : List Case) (most : ℕ) → AreStill (flows_at_end link over_codes cases most)
 run-still link cases most = still-closed (whole_run link over_codes cases most).flows

@@ -11,7 +11,7 @@ use Rattle.flow_core.specs.WordLaws.{acks_in}
 use Rattle.flow_core.specs.Cores.{CoreState}
 use Rattle.flow_core.specs.Summaries.{summary}
 use Rattle.flow_core.specs.Bares.{BareState}
-use Rattle.campaign_gate.specs.declared.case_run.Tally.{Tally}
+use Rattle.campaign_gate.specs.declared.tally.Tally.{Tally}
 use Rattle.campaign_gate.specs.CampaignRow.{sums_of}
 use Rattle.shared_link.specs.declared.shared_case.SharedCase.{SharedCase}
 use Rattle.shared_run.specs.RoundLetters.{world_of_core, with_letter, settling_letter}
@@ -19,13 +19,13 @@ use Rattle.shared_run.specs.FlowRow.{peak_of, AreRoomy}
 use Rattle.shared_run.specs.Courses.{flows_after}
 
 -- the word has all acknowledgements, which are no more than the case's
-pub record IsWhole (core : CoreState) : Type 0 where
+pub record HasAllAcks (core : CoreState) : Type 0 where
   pub all : acks_in core.word ≡ length core.acks
   pub within : length core.acks ≤ core.case.acks
 
-abbrev pub AreWhole : List CoreState → Type 0
-AreWhole [] = Unit {0}
-AreWhole (core ∷ rest) = IsWhole core × AreWhole rest
+abbrev pub HaveAllAcks : List CoreState → Type 0
+HaveAllAcks [] = Unit {0}
+HaveAllAcks (core ∷ rest) = HasAllAcks core × HaveAllAcks rest
 
 -- what later letters depend on
 abbrev pub bare_after : CoreState → BareState
@@ -36,13 +36,13 @@ bare_after core = record { case = core.case; summary = summary (over_codes core.
 -- the flow is after a history at whose end the letter is legal
 pub record MayMake {F : Type 0} (at : CoreState → F) (letter : Letter) (flow : F) : Type 0 where
   pub core : CoreState
-  pub whole : IsWhole core
+  pub whole : HasAllAcks core
   pub after : flow ≡ at core
   pub legal : is_legal (over_codes core.case) (world_of_core over_codes core) letter ≡ true
 
 -- the step was made: after whatever history the old flow is, the new one is after that history and the step
 abbrev pub Makes : {F : Type 0} → (CoreState → F) → (CoreState → CoreState) → F → F → Type 0
-Makes at step old new = (core : CoreState) → IsWhole core → old ≡ at core → new ≡ at (step core)
+Makes at step old new = (core : CoreState) → HasAllAcks core → old ≡ at core → new ≡ at (step core)
 
 -- ---- with its tally
 
@@ -55,48 +55,48 @@ abbrev pub kept_at : {F : Type 0} → (CoreState → F) → CoreState → F × T
 kept_at at core = (at core, tally_of core)
 
 -- those of flow `number` of a run after this many rounds
-abbrev pub kept_in : {F : Type 0} → (CoreState → F) → SharedCase → List Case → ℕ → ℕ → Option (F × Tally)
-kept_in at link cases rounds number = option_map (kept_at at) (slice_get (flows_after link cases rounds) number)
+abbrev pub run_flow_in : {F : Type 0} → (CoreState → F) → SharedCase → List Case → ℕ → ℕ → Option (F × Tally)
+run_flow_in at link cases rounds number = option_map (kept_at at) (slice_get (flows_after link cases rounds) number)
 
 -- the flow and the tally are after this history
-pub record IsAfter {F : Type 0} (at : CoreState → F) (core : CoreState) (flow : F) (tally : Tally) : Type 0 where
-  pub whole : IsWhole core
+pub record IsAfterHistory {F : Type 0} (at : CoreState → F) (core : CoreState) (flow : F) (tally : Tally) : Type 0 where
+  pub whole : HasAllAcks core
   pub flow_is : flow ≡ at core
   pub tally_is : tally ≡ tally_of core
 
 -- they are after some history
 pub record HasHistory {F : Type 0} (at : CoreState → F) (flow : F) (tally : Tally) : Type 0 where
   pub core : CoreState
-  pub after : IsAfter at core flow tally
+  pub after : IsAfterHistory at core flow tally
 
 -- they are after some history, and these acknowledgements may be next
 pub record MayHear {F : Type 0} (at : CoreState → F) (acks : List Ack) (flow : F) (tally : Tally) : Type 0 where
   pub core : CoreState
-  pub after : IsAfter at core flow tally
+  pub after : IsAfterHistory at core flow tally
   pub fits : length core.acks + length acks ≤ core.case.acks
   pub roomy : AreRoomy (core.acks ++ acks)
 
 -- after whatever history they were, they are after that history and the step
 abbrev pub Goes : {F : Type 0} → (CoreState → F) → (CoreState → CoreState) → F → Tally → F → Tally → Type 0
-Goes at step old was new now = (core : CoreState) → IsAfter at core old was → IsAfter at (step core) new now
+Goes at step old was new now = (core : CoreState) → IsAfterHistory at core old was → IsAfterHistory at (step core) new now
 
 -- a ticket was taken if that is legal, and else nothing was changed
 abbrev pub Took : {F : Type 0} → (CoreState → F) → Bool → F → Tally → F → Tally → Type 0
 Took at true old was new now =
-    (core : CoreState) → IsAfter at core old was
+    (core : CoreState) → IsAfterHistory at core old was
     → (is_legal (over_codes core.case) (world_of_core over_codes core) T ≡ true)
-    × IsAfter at (with_letter T core) new now
+    × IsAfterHistory at (with_letter T core) new now
 Took at false old was new now =
-    (core : CoreState) → IsAfter at core old was
+    (core : CoreState) → IsAfterHistory at core old was
     → (is_legal (over_codes core.case) (world_of_core over_codes core) T ≡ false)
-    × IsAfter at core new now
+    × IsAfterHistory at core new now
 
 -- the next letter without an acknowledgement was made; if there is none, nothing was changed
 abbrev pub MakesNext : {F : Type 0} → (CoreState → F) → Bool → Bool → F → Tally → F → Tally → Type 0
 MakesNext at at_end true old was new now =
-    (core : CoreState) → IsAfter at core old was
+    (core : CoreState) → IsAfterHistory at core old was
     → (letter : Letter) × (settling_letter at_end over_codes core ≡ Some letter)
-    × IsAfter at (with_letter letter core) new now
+    × IsAfterHistory at (with_letter letter core) new now
 MakesNext at at_end false old was new now =
-    (core : CoreState) → IsAfter at core old was
-    → (settling_letter at_end over_codes core ≡ None) × IsAfter at core new now
+    (core : CoreState) → IsAfterHistory at core old was
+    → (settling_letter at_end over_codes core ≡ None) × IsAfterHistory at core new now

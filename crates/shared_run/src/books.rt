@@ -7,7 +7,7 @@ ghost use Rattle.flow_core.specs.Cores.{CoreState};
 ghost use Rattle.shared_run.specs.FlowRow.{flow_row};
 ghost use Rattle.shared_run.specs.RoundLetters.{world_of_core};
 ghost use Rattle.shared_run.specs.SharedBooks.{AreGivensOf};
-ghost use Rattle.shared_run.specs.RoundFlows.{kept_at, AreWhole};
+ghost use Rattle.shared_run.specs.RoundFlows.{kept_at, HaveAllAcks};
 
 use crate::flow::SharedFlow;
 use crate::round_flow::RoundFlow;
@@ -41,7 +41,7 @@ pub(crate) fn rows_of<F: RoundFlow>(
     alloc: Global,
     flows: &[SharedFlow<F>],
 ) -> Result<Rows, NoMemory>
-    ensures { IfOk result (λ rows. (cores : List CoreState) → AreWhole cores
+    ensures { IfOk result (λ rows. (cores : List CoreState) → HaveAllAcks cores
         → map (λ shared. (shared.flow, shared.tally)) flows.now ≡ map (kept_at F.at) cores
         → rows ≡ map (flow_row over_codes) cores) }
 {

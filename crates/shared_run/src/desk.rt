@@ -38,11 +38,14 @@ impl<C: Course> Desk<C> {
         ensures link { self.new.link ≡ self.old.link }
         ensures known { length self.new.known.items ≡ length self.old.known.items }
     {
-        let mut parts = order.into_parts();
-        while let Some(part) = parts.pop() {
+        let (mut earlier, last) = order.into_parts();
+        if let Some(part) = last {
             self.take_part(part);
         }
-        let _unkept = self.spare.push(parts);
+        while let Some(part) = earlier.pop() {
+            self.take_part(part);
+        }
+        let _unkept = self.spare.push(earlier);
     }
 
     /// Keeps what is known of a part's flow, and gives the link the list of its acknowledgements back.

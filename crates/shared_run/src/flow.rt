@@ -9,13 +9,13 @@ ghost use Rattle.shared_run.specs.SharedHistory.{ask_of};
 ghost use Rattle.shared_run.specs.FlowRow.{flow_row};
 ghost use Rattle.shared_run.specs.LiftedFlow.{FlowHoldsForSources};
 ghost use Rattle.shared_run.specs.SharedBooks.{IsGivenOf};
-ghost use Rattle.shared_run.specs.RoundFlows.{MayMake, IsAfter, HasHistory, MayHear, Goes, Took, MakesNext};
+ghost use Rattle.shared_run.specs.RoundFlows.{MayMake, IsAfterHistory, HasHistory, MayHear, Goes, Took, MakesNext};
 
 use crate::round_flow::RoundFlow;
-use campaign_gate::{Row, Sums, Tally, is_due};
-use ccp_base::{Ack, NoMemory};
+use campaign_gate::{Row, Tally, is_due};
+use ccp_base::NoMemory;
 use flow_core::{Case, Core, Given, Letter};
-use shared_link::Ask;
+use shared_link::{Ask, PackedAck};
 use std::alloc::Global;
 
 /// A flow that shares its link: it is given its acknowledgements round by round, and tallies what its row needs.
@@ -28,23 +28,17 @@ pub(crate) struct SharedFlow<F: RoundFlow> {
 impl<F: RoundFlow> SharedFlow<F> {
     /// A flow without a letter. What its case needs of memory is reserved here.
     pub(crate) fn open(alloc: Global, case: Case) -> Result<SharedFlow<F>, NoMemory>
-        ensures { IfOk result (λ shared. IsAfter F.at (opened case) shared.flow shared.tally) }
+        ensures { IfOk result (λ shared. IsAfterHistory F.at (opened case) shared.flow shared.tally) }
     {
         let flow = F::open(alloc, case)?;
-        let peak = flow.bare().cwnd();
-        Ok(SharedFlow {
-            flow,
-            tally: Tally {
-                sums: Sums::none(),
-                peak,
-            },
-        })
+        let tally = Tally::opening(flow.bare());
+        Ok(SharedFlow { flow, tally })
     }
 
     /// What the flow asks the link for: its present congestion window, and the acknowledgements of its case that are
     /// left.
     pub(crate) fn ask(&self) -> Ask
-        ensures { (core : CoreState) → IsAfter F.at core self.now.flow self.now.tally
+        ensures { (core : CoreState) → IsAfterHistory F.at core self.now.flow self.now.tally
             → result ≡ ask_of over_codes core }
     {
         let bare = self.flow.bare();
@@ -56,7 +50,7 @@ impl<F: RoundFlow> SharedFlow<F> {
 
     /// The flow's part of a round: each of these acknowledgements, and what is taken and answered after it. If memory
     /// runs out, no clause says which of its letters were made; without an acknowledgement it can't run out.
-    pub(crate) fn part(&mut self, alloc: Global, acks: &[Ack]) -> Result<(), NoMemory>
+    pub(crate) fn part(&mut self, alloc: Global, acks: &[PackedAck]) -> Result<(), NoMemory>
         requires { MayHear F.at acks.now self.old.flow self.old.tally }
         ensures part { OnOk result (Goes F.at (round_part over_codes acks.now)
             self.old.flow self.old.tally self.new.flow self.new.tally) }
@@ -105,7 +99,7 @@ impl<F: RoundFlow> SharedFlow<F> {
 
     /// Whether an answer comes next.
     fn answers_next(&self, at_end: bool) -> bool
-        ensures { (core : CoreState) → IsAfter F.at core self.now.flow self.now.tally
+        ensures { (core : CoreState) → IsAfterHistory F.at core self.now.flow self.now.tally
             → result ≡ answers_next at_end over_codes core }
     {
         let bare = self.flow.bare();
@@ -113,13 +107,14 @@ impl<F: RoundFlow> SharedFlow<F> {
     }
 
     /// Takes an acknowledgement.
-    fn hear(&mut self, ack: &Ack)
-        requires { MayHear F.at (ack.now ∷ []) self.old.flow self.old.tally }
-        ensures { Goes F.at (λ core. with_ack core ack.entry.now)
+    fn hear(&mut self, packed: &PackedAck)
+        requires { MayHear F.at (packed.now ∷ []) self.old.flow self.old.tally }
+        ensures { Goes F.at (λ core. with_ack core packed.entry.now)
             self.old.flow self.old.tally self.new.flow self.new.tally }
     {
-        self.flow.hear(ack);
-        self.tally.sums = self.tally.sums.with(ack);
+        let ack = packed.ack();
+        self.flow.hear(&ack);
+        self.tally.sums = self.tally.sums.with(&ack);
         self.raise_peak();
     }
 
@@ -164,12 +159,12 @@ impl<F: RoundFlow> SharedFlow<F> {
         ensures sums { self.new.tally.sums ≡ self.old.tally.sums }
         ensures peak { self.new.tally.peak ≡ max self.old.tally.peak (F.bare_of self.old.flow).summary.track.env.cwnd }
     {
-        self.tally.peak = self.tally.peak.max(self.flow.bare().cwnd());
+        self.tally.raise_peak(self.flow.bare());
     }
 
     /// The flow's row.
     pub(crate) fn row(&self) -> Row
-        ensures { (core : CoreState) → IsAfter F.at core self.now.flow self.now.tally
+        ensures { (core : CoreState) → IsAfterHistory F.at core self.now.flow self.now.tally
             → result ≡ flow_row over_codes core }
     {
         Row::of(self.flow.bare(), self.tally.sums, self.tally.peak)

@@ -1,5 +1,5 @@
 //! What a worker is to do in a round: the parts of its flows.
-ghost use Rattle.std.specs.Prelude.{◌≡◌, ◌%◌, [], map, OnOk};
+ghost use Rattle.std.specs.Prelude.{◌≡◌, ◌%◌, [], ◌++◌, map, option_to_list, OnOk};
 ghost use Rattle.std.specs.List.{All};
 ghost use Rattle.shared_run.specs.Orders.{FlowPart, OrderState, with_flow_part, AreDealt};
 
@@ -28,14 +28,18 @@ pub(crate) struct Part<C: Course> {
 pub(crate) struct Order<C: Course> {
     worker: u32,
     workers: u32,
-    parts: Vec<Part<C>>,
+    /// The parts before the last one.
+    earlier: Vec<Part<C>>,
+    /// The last part. A short round has no other, and then the thread that gets the message has the part with it: it
+    /// needn't wait for a list from the sender's processor.
+    last: Option<Part<C>>,
     ghost own: { All (λ (part : FlowPart). part.0 % workers ≡ worker)
-        (map (λ part. (part.acks.number, part.acks.acks)) parts.items) },
+        (map (λ part. (part.acks.number, part.acks.acks)) (earlier.items ++ option_to_list last)) },
 }
 
 /// What is known of the flows is no part of the model: when the parts are done, the order is as before.
 impl<C: Course> Model for Order<C> {
-    ghost use Rattle.std.specs.Prelude.{map};
+    ghost use Rattle.std.specs.Prelude.{◌++◌, map, option_to_list};
     ghost use Rattle.shared_run.specs.Orders.{OrderState};
 
     ghost Value = { OrderState };
@@ -43,21 +47,22 @@ impl<C: Course> Model for Order<C> {
     ghost view = { λ o. record {
       worker = o.worker;
       workers = o.workers;
-      parts = map (λ part. (part.acks.number, part.acks.acks)) o.parts.items;
+      parts = map (λ part. (part.acks.number, part.acks.acks)) (o.earlier.items ++ option_to_list o.last);
     } };
 }
 
 impl<C: Course> Order<C> {
     /// An order without a part. The list's memory serves it.
-    fn new(parts: Vec<Part<C>>, worker: u32, workers: u32) -> Self
+    fn new(spare: Vec<Part<C>>, worker: u32, workers: u32) -> Self
         ensures { result ≡ record { worker = worker; workers = workers; parts = [] } }
     {
-        let mut parts = parts;
-        parts.clear();
+        let mut earlier = spare;
+        earlier.clear();
         Order {
             worker,
             workers,
-            parts,
+            earlier,
+            last: None,
         }
     }
 
@@ -66,7 +71,10 @@ impl<C: Course> Order<C> {
         requires { acks.number % self.old.workers ≡ self.old.worker }
         ensures { OnOk result (self.new ≡ with_flow_part (acks.number, acks.acks) self.old) }
     {
-        self.parts.push(Part { acks, known: None })?;
+        let before = self.last.replace(Part { acks, known: None });
+        if let Some(part) = before {
+            self.earlier.push(part)?;
+        }
         Ok(())
     }
 
@@ -79,7 +87,7 @@ impl<C: Course> Order<C> {
 
     /// Whether the worker has nothing to do.
     pub(crate) fn is_empty(&self) -> bool {
-        self.parts.is_empty()
+        self.last.is_none()
     }
 
     /// Does the parts. Each then has what is known of its flow.
@@ -93,16 +101,17 @@ impl<C: Course> Order<C> {
         ensures { self.new ≡ self.old }
     {
         let worker = self.worker;
-        do_all(rt, alloc, flows, worker, self.parts.as_mut_slice(), gate);
+        do_all(rt, alloc, flows, worker, self.earlier.as_mut_slice(), gate);
+        do_last(rt, alloc, flows, worker, &mut self.last, gate);
     }
 
-    /// The list of the parts, after they are done.
-    pub(crate) fn into_parts(self) -> Vec<Part<C>> {
-        self.parts
+    /// The parts before the last one, and the last one.
+    pub(crate) fn into_parts(self) -> (Vec<Part<C>>, Option<Part<C>>) {
+        (self.earlier, self.last)
     }
 }
 
-/// Does the parts of a worker. It passes the gate at `InCase` before a part and at `AfterCase` after it.
+/// Does parts of a worker.
 fn do_all<C: Course, F: RoundFlow, R: Wait, G: Gate>(
     rt: &R,
     alloc: Global,
@@ -115,11 +124,42 @@ fn do_all<C: Course, F: RoundFlow, R: Wait, G: Gate>(
         ≡ map {B = FlowPart} (λ part. (part.acks.number, part.acks.acks)) parts.old }
 {
     for part in parts.iter_mut() {
-        let number = part.acks.number;
-        gate.pass(worker, Point::InCase, number);
-        part.known = do_part(rt, alloc, flows, &part.acks);
-        gate.pass(worker, Point::AfterCase, number);
+        do_one(rt, alloc, flows, worker, part, gate);
     }
+}
+
+/// Does the last part of a worker, if it has any.
+fn do_last<C: Course, F: RoundFlow, R: Wait, G: Gate>(
+    rt: &R,
+    alloc: Global,
+    flows: &[LockedRunFlow<C, F>],
+    worker: u32,
+    last: &mut Option<Part<C>>,
+    gate: &G,
+)
+    ensures { map {B = FlowPart} (λ part. (part.acks.number, part.acks.acks)) (option_to_list last.new)
+        ≡ map {B = FlowPart} (λ part. (part.acks.number, part.acks.acks)) (option_to_list last.old) }
+{
+    if let Some(part) = last {
+        do_one(rt, alloc, flows, worker, part, gate);
+    }
+}
+
+/// Does a part of a worker. It passes the gate at `InCase` before the part and at `AfterCase` after it.
+fn do_one<C: Course, F: RoundFlow, R: Wait, G: Gate>(
+    rt: &R,
+    alloc: Global,
+    flows: &[LockedRunFlow<C, F>],
+    worker: u32,
+    part: &mut Part<C>,
+    gate: &G,
+)
+    ensures { part.new.acks ≡ part.old.acks }
+{
+    let number = part.acks.number;
+    gate.pass(worker, Point::InCase, number);
+    part.known = do_part(rt, alloc, flows, &part.acks);
+    gate.pass(worker, Point::AfterCase, number);
 }
 
 /// Puts the orders of workers, without a part, into a list. They have the lists that are spare.
@@ -133,8 +173,8 @@ pub(crate) fn open_orders<C: Course>(
 {
     orders.clear();
     for worker in 0..workers {
-        let parts = spare_list(alloc, spare);
-        orders.push(Order::new(parts, worker, workers))?;
+        let list = spare_list(alloc, spare);
+        orders.push(Order::new(list, worker, workers))?;
     }
     Ok(())
 }

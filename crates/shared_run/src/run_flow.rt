@@ -1,6 +1,6 @@
 //! A flow of a run between two rounds.
 ghost use Rattle.std.specs.Prelude.{◌≡◌, ◌+◌, ◌↔◌, false, Some, length, IfOk, IsSome, IsTrue};
-ghost use Rattle.shared_run.specs.RoundFlows.{kept_in};
+ghost use Rattle.shared_run.specs.RoundFlows.{run_flow_in};
 
 use crate::course::Course;
 use crate::flow::SharedFlow;
@@ -23,7 +23,7 @@ pub(crate) struct RunFlow<C: Course, F: RoundFlow> {
     /// Whether its part of the next round ran out of memory.
     lacked_memory: bool,
     of: PhantomData<C>,
-    ghost stands: { lacked_memory ≡ false → kept_in F.at C.link C.cases round number ≡ Some (flow.flow, flow.tally) },
+    ghost stands: { lacked_memory ≡ false → run_flow_in F.at C.link C.cases round number ≡ Some (flow.flow, flow.tally) },
 }
 
 /// A flow of a run behind its lock. The flows of a run are in one list, in which each has cache lines of its own: two
@@ -33,7 +33,7 @@ pub(crate) type LockedRunFlow<C, F> = CachePadded<Mutex<RunFlow<C, F>>>;
 impl<C: Course, F: RoundFlow> RunFlow<C, F> {
     /// A flow before the first round.
     pub(crate) fn begin(flow: SharedFlow<F>, number: u32) -> Self
-        requires { kept_in F.at C.link C.cases 0 number ≡ Some (flow.flow, flow.tally) }
+        requires { run_flow_in F.at C.link C.cases 0 number ≡ Some (flow.flow, flow.tally) }
     {
         RunFlow {
             flow,
@@ -87,7 +87,7 @@ impl<C: Course, F: RoundFlow> RunFlow<C, F> {
 
     /// That flow after this many rounds. If it isn't there, that is reported as out of memory.
     pub(crate) fn into_flow(self, number: u32, round: u32) -> Result<SharedFlow<F>, NoMemory>
-        ensures { IfOk result (λ shared. kept_in F.at C.link C.cases round number ≡ Some (shared.flow, shared.tally)) }
+        ensures { IfOk result (λ shared. run_flow_in F.at C.link C.cases round number ≡ Some (shared.flow, shared.tally)) }
     {
         if !self.is_at(number, round) {
             return Err(NoMemory);

@@ -2,7 +2,7 @@ use Rattle.std.proofs.Common.{◌≡◌, ◌∷◌, [], arith, refl}
 use Rattle.flow_core.specs.Readings.{over_codes}
 use Rattle.flow_core.specs.Cores.{CoreState, with_ack}
 use Rattle.shared_run.specs.RoundLetters.{with_settled_ack}
-use Rattle.shared_run.specs.RoundFlows.{IsAfter}
+use Rattle.shared_run.specs.RoundFlows.{IsAfterHistory}
 use Rattle.shared_run.proofs.CourseLemmas.{none-of}
 use Rattle.shared_run.proofs.RoundFlowLemmas.{hears-first, hears-rest, part-on, part-done}
 use Rattle.shared_run.proofs.flow.SharedFlow.part.Goals as goal
@@ -32,7 +32,7 @@ loop-ack-preserved g c =
     let rest = c.in-Some.rest.now in
     let split : c.loop-ack.left.now ≡ ack ∷ rest = c.in-Some.ensures.cases.0 in
     let long = c.in-Some.ensures.cases.1 in
-    let goes : (core : CoreState) → IsAfter at core old.flow old.tally → IsAfter at (with_settled_ack over_codes ack core) new.flow new.tally =
+    let goes : (core : CoreState) → IsAfterHistory at core old.flow old.tally → IsAfterHistory at (with_settled_ack over_codes ack core) new.flow new.tally =
     λ core after. c.in_ok-settle_all.ensures (with_ack core ack) (c.hear.ensures core after) in (
       hears-rest at c.loop-ack.left.now rest ack old.flow old.tally new.flow new.tally split c.loop-ack.invariant.0 goes,
       part-on at c.args.acks.now c.loop-ack.left.now rest ack first.flow first.tally old.flow old.tally new.flow new.tally split c.loop-ack.invariant.1 goes,

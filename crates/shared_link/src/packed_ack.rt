@@ -1,0 +1,126 @@
+//! Acknowledgements in packed form.
+ghost use Rattle.std.specs.Prelude.{◌≡◌, ◌≤◌};
+ghost use Rattle.ccp_base.specs.Limits.{most_segment_bytes, most_flight};
+ghost use Rattle.link_model.specs.Counts.{most_packets};
+ghost use Rattle.link_model.specs.Link.{no_past, arrival_ack_of, timeout_ack_of};
+
+use ccp_base::{Ack, Sequence};
+use link_model::{Arrival, Past, arrival_ack, timeout_ack};
+use std::marker::Model;
+
+/// An acknowledgement in 56 bytes, by what the link knows of it. The whole acknowledgement, with its rates, is computed
+/// by the thread that gives it to its flow, and not by the one that runs the link for all flows. Contracts see the whole
+/// one.
+#[derive(Drop)]
+pub struct PackedAck {
+    /// When it arrives, in microseconds.
+    now: u64,
+    rtt_sample_us: u64,
+    /// How many packets leave the flight as lost.
+    lost: u64,
+    /// How many packets stay in flight.
+    stay: u64,
+    /// How many packets of the flow were acknowledged so far.
+    acked: u64,
+    /// How many were sent so far.
+    sent: u64,
+    mss: u32,
+    /// Whether the queue marked its packet.
+    marked: bool,
+    was_timeout: bool,
+}
+
+/// Acknowledgements of a flow, in order.
+pub type PackedAcks = Sequence<PackedAck>;
+
+impl Model for PackedAck {
+    ghost use Rattle.ccp_base.specs.declared.ack.Ack.{Ack};
+    ghost use Rattle.shared_link.specs.PackedAcks.{unpacked, IsPacked};
+
+    ghost Value = { Ack };
+
+    ghost view = { unpacked };
+
+    ghost invariant = { IsPacked };
+}
+
+impl PackedAck {
+    /// The acknowledgement of `arrival`, a packet of `mss` bytes, if `stay` packets stay in flight and `acked` packets
+    /// were acknowledged, this one counted, of `sent` that were sent.
+    #[inline]
+    pub(crate) fn of_arrival(mss: u32, arrival: Arrival, stay: u64, acked: u64, sent: u64) -> Self
+        requires mss { mss ≤ most_segment_bytes }
+        requires order { arrival.sent_at ≤ arrival.at }
+        requires stay { stay ≤ most_flight }
+        requires acked { acked ≤ most_packets }
+        requires sent { sent ≤ most_packets }
+        ensures { result ≡ arrival_ack_of mss arrival.sent_at arrival.at arrival.marked no_past arrival.lost stay acked sent }
+    {
+        PackedAck {
+            now: arrival.at,
+            rtt_sample_us: arrival.at - arrival.sent_at,
+            lost: arrival.lost,
+            stay,
+            acked,
+            sent,
+            mss,
+            marked: arrival.marked,
+            was_timeout: false,
+        }
+    }
+
+    /// The acknowledgement of a timeout at `now`, in microseconds, after `past`, if all `lost` packets in flight, of
+    /// `mss` bytes each, are lost and `acked` packets were acknowledged of `sent` that were sent.
+    pub(crate) fn of_timeout(
+        mss: u32,
+        now: u64,
+        past: Past,
+        lost: u64,
+        acked: u64,
+        sent: u64,
+    ) -> Self
+        requires mss { mss ≤ most_segment_bytes }
+        requires acked { acked ≤ most_packets }
+        requires sent { sent ≤ most_packets }
+        ensures { result ≡ timeout_ack_of mss now past lost 0 acked sent }
+    {
+        PackedAck {
+            now,
+            rtt_sample_us: past.rtt_sample_us,
+            lost,
+            stay: 0,
+            acked,
+            sent,
+            mss,
+            marked: false,
+            was_timeout: true,
+        }
+    }
+
+    /// The whole acknowledgement.
+    #[inline]
+    pub fn ack(&self) -> Ack
+        ensures { result ≡ self.entry.now }
+    {
+        if self.was_timeout {
+            let past = Past {
+                rtt_sample_us: self.rtt_sample_us,
+            };
+            return timeout_ack(self.mss, self.now, past, self.lost, self.acked, self.sent);
+        }
+        let arrival = Arrival {
+            lost: self.lost,
+            sent_at: self.now.saturating_sub(self.rtt_sample_us),
+            at: self.now,
+            marked: self.marked,
+        };
+        arrival_ack(
+            self.mss,
+            arrival,
+            Past::none(),
+            self.stay,
+            self.acked,
+            self.sent,
+        )
+    }
+}
