@@ -8,6 +8,8 @@ returns g c =
     let flow = g.F.CampaignFlow in
     let old = c.args.self.now in
     let new = c.grow.new.self in
+    let raised = c.raise_peak.new.self in
     onward flow.at flow.bare_of g.met.F.CampaignFlow.bare_law (flow.bare_of old.flow).case old.flow old.tally c.args.letter c.requires
-    new.flow new.tally.sums c.max-self.result c.in_ok-grow.ensures.made c.in_ok-grow.ensures.sums
-    (c.max-self.ensures ∙ (λ i. max (c.grow.ensures.peak i) ((c.cwnd.ensures ∙ ap (λ (b : BareState). b.summary.track.env.cwnd) c.bare.ensures) i)))
+    new.flow raised.sums raised.peak c.in_ok-grow.ensures.made
+    (λ cell is. c.raise_peak.ensures.sums ∙ c.in_ok-grow.ensures.sums cell is)
+    (c.raise_peak.ensures.peak ∙ (λ i. max (c.grow.ensures.peak i) (ap (λ (b : BareState). b.summary.track.env.cwnd) c.bare.ensures i)))
