@@ -1,4 +1,4 @@
-use Rattle.std.proofs.Common.{slice_index_or, refl, ◌∙◌}
+use Rattle.std.proofs.Common.{slice_index_or, ap, ◌∙◌}
 use Rattle.std.proofs.Math.Seq.{map-set_same}
 use Rattle.shared_run.specs.Orders.{FlowPart}
 use Rattle.shared_run.proofs.order.do_all.Goals as goal
@@ -7,5 +7,5 @@ pub loop-part-preserved : goal.loop-part-preserved
 loop-part-preserved g c =
     let l = c.loop-part in
     map-set_same {B = FlowPart} (λ part. (part.acks.number, part.acks.acks)) l.parts l.part-index
-    (record { acks = (slice_index_or l.parts l.part-index c.part-item.result).acks; known = c.do_part-part.result }) c.part-item.result refl
+    c.do_one.new.part c.part-item.result (ap (λ acks. (acks.number, acks.acks)) c.do_one.ensures)
     ∙ l.invariant
