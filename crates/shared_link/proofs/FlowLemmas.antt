@@ -171,8 +171,6 @@ module _ (times : List ℕ) (trace : IsTrace times) (delay past : ℕ) (packets 
 -- ---- an acknowledgement
 
 module _ (times : List ℕ) (trace : IsTrace times) (link : FlowLink) (past : ℕ) (packets : List Packet) (givens : List GivenAck) (settled : FlowSettled times link.delay_us past packets givens) where
-  flight_now : List Numbered
-  flight_now = in_flight packets givens
 
   pub matches : MatchNext (in_flight packets givens) 0 0 (next_arrival (in_flight packets givens))
   matches = match_next (in_flight packets givens) 0 0 settled.rises
