@@ -70,7 +70,7 @@ pub record MayHear {F : Type 0} (at : CellState → F) (flow : F) (sums : Sums) 
 abbrev pub Makes : {F : Type 0} → (CellState → F) → Letter → F → F → Type 0
 Makes at letter old new = (cell : CellState) → old ≡ at cell → new ≡ at (with_letter letter cell)
 
--- the flow is after a word that its campaign word goes on from, and what is kept beside it is that of this word
+-- the flow is after a prefix of its campaign word, and the tally is that of this prefix
 pub record IsOnWay {F : Type 0} (at : CellState → F) (case : Case) (flow : F) (tally : Tally) : Type 0 where
   pub word : List Letter
   pub after : flow ≡ at (record { case = case; word = word })

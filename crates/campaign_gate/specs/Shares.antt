@@ -1,4 +1,4 @@
--- How workers share a list: each has every so-many-th item, and the shares of all workers side by side are the list.
+-- How workers share a list: each has every n-th item, and the shares of all workers side by side are the list.
 use Rattle.std.specs.Prelude.{ℕ, zero, suc, ◌-◌, ◌++◌, Option, Some, None, List, [], ◌∷◌}
 
 -- the items at the places `skip`, `skip + step`, `skip + 2 * step` and so on

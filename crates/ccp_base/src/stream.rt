@@ -127,13 +127,6 @@ impl<W: WriteStream> Writer<W> {
     {
         Writer { stream, faults: 0 }
     }
-
-    /// The stream.
-    pub fn into_stream(self) -> W
-        ensures { result ≡ self.stream }
-    {
-        self.stream
-    }
 }
 
 impl<W: WriteStream> Sink for Writer<W> {

@@ -38,7 +38,7 @@ fn read_message(alloc: Global, bytes: &[u8]) -> Result<(Message, Version, usize)
     Ok((message, head.version, used))
 }
 
-/// The same, with its faults.
+/// As `read_message`, with its faults.
 fn decode_exactly(alloc: Global, bytes: &[u8]) -> Result<(Message, Version, usize), DecodeFault>
     ensures told { IsDecoded result (decoded_of bytes.now) }
     ensures memory { result ≡ Err DecodeFault.NoMemory → BeginsInstall bytes.now }

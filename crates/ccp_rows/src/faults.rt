@@ -85,8 +85,8 @@ fn is_write_fault<R: Threads + Wait + Sync>(
     Ok(run.is(5, front, b"ccp: write fault\n") && run.programs == 0)
 }
 
-/// Lets each read fail.
-fn reads_fail<R: Threads + Wait + Sync>(
+/// Lets each read fail, and asserts how the run ends.
+fn assert_reads_fail<R: Threads + Wait + Sync>(
     rt: &R,
     abort: &impl Abort,
     alloc: Global,
@@ -101,8 +101,8 @@ fn reads_fail<R: Threads + Wait + Sync>(
     Ok(())
 }
 
-/// Lets each write of this output fail.
-fn writes_fail<R: Threads + Wait + Sync>(
+/// Lets each write of this output fail, and asserts how the run ends.
+fn assert_writes_fail<R: Threads + Wait + Sync>(
     rt: &R,
     abort: &impl Abort,
     alloc: Global,
@@ -118,8 +118,8 @@ fn writes_fail<R: Threads + Wait + Sync>(
     Ok(())
 }
 
-/// Lets each write of a run fail that ends well otherwise.
-fn writes_fail_after_a_run<R: Threads + Wait + Sync>(
+/// Lets each write of a run fail that ends well otherwise, and asserts how it ends.
+fn assert_writes_fail_after_a_run<R: Threads + Wait + Sync>(
     rt: &R,
     abort: &impl Abort,
     alloc: Global,
@@ -129,20 +129,20 @@ fn writes_fail_after_a_run<R: Threads + Wait + Sync>(
     if whole.status != 0 {
         return Err("the run doesn't end well".into());
     }
-    writes_fail(rt, abort, alloc, given, whole.output.as_slice())
+    assert_writes_fail(rt, abort, alloc, given, whole.output.as_slice())
 }
 
 #[test]
 fn each_read_and_each_write_fails(rt: HostRuntime) -> Result<(), Fail> {
     for given in &GIVEN {
-        reads_fail(&rt, &rt, rt.alloc(), *given)?;
-        writes_fail_after_a_run(&rt, &rt, rt.alloc(), *given)?;
+        assert_reads_fail(&rt, &rt, rt.alloc(), *given)?;
+        assert_writes_fail_after_a_run(&rt, &rt, rt.alloc(), *given)?;
     }
     Ok(())
 }
 
-/// Lets each read of a feed fail: the report is answered before the last one, which finds the end.
-fn feed_reads_fail<R: Threads + Wait + Sync>(
+/// Asserts how a feed ends if a read fails: the report is answered before the last one, which finds the end.
+fn assert_feed_reads_fail<R: Threads + Wait + Sync>(
     rt: &R,
     abort: &impl Abort,
     alloc: Global,
@@ -162,11 +162,11 @@ fn feed_reads_fail<R: Threads + Wait + Sync>(
 #[test]
 fn each_read_of_a_feed_fails(rt: HostRuntime) -> Result<(), Fail> {
     let input = join_parts(rt.alloc(), &REPORTING)?;
-    feed_reads_fail(&rt, &rt, rt.alloc(), feed_of(input.as_slice()))
+    assert_feed_reads_fail(&rt, &rt, rt.alloc(), feed_of(input.as_slice()))
 }
 
-/// Lets each write of a feed fail: two flushes follow the four writes of the answer.
-fn feed_writes_fail<R: Threads + Wait + Sync>(
+/// Asserts how a feed ends if a write fails: two flushes follow the four writes of the answer.
+fn assert_feed_writes_fail<R: Threads + Wait + Sync>(
     rt: &R,
     abort: &impl Abort,
     alloc: Global,
@@ -184,5 +184,5 @@ fn feed_writes_fail<R: Threads + Wait + Sync>(
 #[test]
 fn each_write_of_a_feed_fails(rt: HostRuntime) -> Result<(), Fail> {
     let input = join_parts(rt.alloc(), &REPORTING)?;
-    feed_writes_fail(&rt, &rt, rt.alloc(), feed_of(input.as_slice()))
+    assert_feed_writes_fail(&rt, &rt, rt.alloc(), feed_of(input.as_slice()))
 }

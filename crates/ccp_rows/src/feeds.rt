@@ -134,8 +134,8 @@ fn is_answered<R: Threads + Wait + Sync>(
     Ok(run.is(status, output, errors) && run.programs == 0 && run.ran == 0)
 }
 
-/// Asserts it of pieces of each length from 1 to 20, and of the whole input.
-fn is_answered_in_pieces<R: Threads + Wait + Sync>(
+/// Asserts that a feed has this result by pieces of each length from 1 to 20, and by its whole input.
+fn assert_answered_in_pieces<R: Threads + Wait + Sync>(
     rt: &R,
     abort: &impl Abort,
     alloc: Global,
@@ -151,7 +151,7 @@ fn is_answered_in_pieces<R: Threads + Wait + Sync>(
 #[test]
 fn feeds_come_in_any_pieces(rt: HostRuntime) -> Result<(), Fail> {
     for row in &ROWS {
-        is_answered_in_pieces(&rt, &rt, rt.alloc(), row)?;
+        assert_answered_in_pieces(&rt, &rt, rt.alloc(), row)?;
     }
     Ok(())
 }

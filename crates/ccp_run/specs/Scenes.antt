@@ -31,7 +31,7 @@ pub record IsScenario (mode : SceneMode) (bytes : List ℕ) (programs : List (�
 abbrev pub SaysSomething : {Said : Type 0} → (Said → Type 0) → Type 0
 SaysSomething {Said} says = (said : Said) × says said
 
--- the refusal is one of a scenario, for a fault that this is so of
+-- the refusal is one of a scenario, and its fault has this property
 abbrev pub IsOfScene : (SceneFault → Type 0) → Refusal → Type 0
 IsOfScene has (refusal.Scene fault) = has fault
 IsOfScene has _ = ⊥

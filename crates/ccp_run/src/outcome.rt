@@ -39,9 +39,19 @@ impl ModeOutput {
         ensures programs { result.programs ≡ programs }
         ensures ran { result.ran ≡ 0 }
     {
+        ModeOutput::with_books(text, Books::new(alloc), programs)
+    }
+
+    /// A text, books and programs, without an instruction.
+    pub(crate) fn with_books(text: Bytes, books: Books, programs: Builts) -> ModeOutput
+        ensures text { result.text ≡ text }
+        ensures books { result.books ≡ books }
+        ensures programs { result.programs ≡ programs }
+        ensures ran { result.ran ≡ 0 }
+    {
         ModeOutput {
             text,
-            books: Books::new(alloc),
+            books,
             programs,
             ran: 0,
         }

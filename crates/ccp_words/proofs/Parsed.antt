@@ -1,12 +1,11 @@
 -- What a parse of the tool's command line says of the words.
 use Rattle.std.proofs.Common.{ℕ, ◌≤◌, ◌<◌, ◌^◌, IfSome, ◌≡◌, ◌∙◌, Bool, true, false, List, [], ◌∷◌, Option, Some, None, map, option_and_then, option_map, find, codes, bytes_eq, ap, sym, refl, arith, ne_eqb, subst}
 use Rattle.std.specs.List.{list_any}
-use Rattle.std.specs.Result.{result_ok}
 use Rattle.std.proofs.lemmas.Slice.Eq.{bytes_eq-Decides}
 use Rattle.clap.specs.Built.{IsParsedFrom}
 use Rattle.clap.specs.Faults.{fault_of, is_simple_and_free}
 use Rattle.clap.specs.Kinds.{Kinds, IsAmong}
-use Rattle.clap.specs.Matches.{ReadsOne, found_of, one_text}
+use Rattle.clap.specs.Matches.{found_of, one_text}
 use Rattle.clap.specs.Simple.{HasMatchesOf, app_of, is_simple, matches_of}
 use Rattle.clap.specs.Values.{same_text}
 use Rattle.clap.specs.Walk.{Text, is_empty, one_of}
@@ -21,7 +20,6 @@ use Rattle.ccp_words.specs.declared.words.Asked.{Asked}
 use Rattle.ccp_words.proofs.OptionsGiven.{datapaths_given, agents_given, workers_given, number_given}
 use Rattle.clap.specs.Values.{IsUnsignedIn}
 use Rattle.ccp_words.specs.declared.mode.ToolMode.{ToolMode}
-use Rattle.ccp_words.specs.declared.mode.NoMode.{NoMode}
 use Rattle.ccp_words.proofs.CommandLine.{any_text, same_faults, same_matches}
 use Rattle.ccp_words.proofs.ModeGiven.{mode_given}
 
@@ -46,10 +44,6 @@ found_in (row ∷ rows) text any = at (bytes_eq text row.0) refl (bytes_eq row.0
 -- a name among those of the modes is that of a mode
 named : (text : Text) → list_any (λ name. same_text false name text) mode_names ≡ true → (mode : ToolMode) × (mode_named text ≡ Some mode)
 named text any = found_in modes text any
-
-reads : (text : Text) (r : Option ToolMode) → ReadsOne {E = NoMode} (λ name mode. result_ok mode ≡ mode_named name) text r → r ≡ mode_named text
-reads text None e = e.1
-reads text (Some mode) e = e
 
 module _ (command : Command) (line : IsCommandLine command) (words : List Text) where
   faults : fault_of (app_of command) words ≡ fault_of ccp words

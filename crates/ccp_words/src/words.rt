@@ -10,6 +10,9 @@ use clap::error::ErrorKind;
 use clap::{Arg, ArgAction, ArgMatches, Command};
 use std::alloc::{AllocError, Global};
 
+/// The most workers of a kind.
+const WORKERS: u64 = 32;
+
 /// Why words ask for nothing.
 #[derive(Clone, Copy)]
 pub enum Unasked {
@@ -110,9 +113,9 @@ fn command<'a>(alloc: Global) -> Result<Command<'a>, AllocError>
         .disable_help_flag(true)
         .disable_version_flag(true)
         .arg(mode)?
-        .arg(number_option(alloc, "datapaths", 1, 32))?
-        .arg(number_option(alloc, "agents", 1, 32))?
-        .arg(number_option(alloc, "workers", 1, 32))?
+        .arg(number_option(alloc, "datapaths", 1, WORKERS))?
+        .arg(number_option(alloc, "agents", 1, WORKERS))?
+        .arg(number_option(alloc, "workers", 1, WORKERS))?
         .arg(number_option(alloc, "number", 0, 4_294_967_295))?
         .arg(wire)
 }

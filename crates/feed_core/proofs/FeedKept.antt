@@ -35,7 +35,7 @@ use Rattle.fold_machine.specs.MachineState.{MachineState, Fits}
 use Rattle.fold_machine.specs.Heard.{after_acknowledgement, heard_where, after_made, started_by, updated_by}
 use Rattle.feed_core.specs.declared.flow.Epoch.{Epoch}
 use Rattle.feed_core.specs.declared.flow.Flow.{Flow}
-use Rattle.feed_core.specs.Feed.{FeedState, there, Answer, MessageAnswer, refused, with_flow, fresh_flow, created_at, installed_as, installed_at, next_epoch, changed_flow, is_too_wide, changed_with, changed_to, changed_at, running_code, updated_flow, updated_with, updated_on, updated_at, counted_flow, first_after, flow_after, message_about, in_version, acked_on, flow_acked, handled}
+use Rattle.feed_core.specs.Feed.{FeedState, there, Answer, MessageAnswer, refused, with_flow, fresh_flow, created_at, installed_as, installed_at, next_epoch_number, changed_flow, is_too_wide, changed_with, changed_to, changed_at, running_code, updated_flow, updated_with, updated_on, updated_at, counted_flow, first_after, flow_after, message_about, in_version, acked_on, flow_acked, handled}
 use Rattle.feed_core.specs.FeedHolds.{RunsOn, IsFlow, IsFlowThere, IsAcceptedThere, AreFeedParts, IsFeed, longest_answer, HasShortFrame}
 
 -- ---- lists of places
@@ -291,7 +291,7 @@ module _ (state : FeedState) (is_feed : IsFeed state) where
       counted = omega (arith, is.counted);
       spanned = omega arith;
       changed = omega (arith, is.changed);
-      runs = subst (λ (o : Option Code). RunsOn (Some (record { program = program; number = next_epoch flow.epoch })) flow.version (started_by code values flow.last flow.machine) (option_map (λ code. (record { program = program; number = next_epoch flow.epoch }, code)) o))
+      runs = subst (λ (o : Option Code). RunsOn (Some (record { program = program; number = next_epoch_number flow.epoch })) flow.version (started_by code values flow.last flow.machine) (option_map (λ code. (record { program = program; number = next_epoch_number flow.epoch }, code)) o))
           (sym here) (started-fits code values flow.last flow.machine, few flow.version code fits);
     }) tt
 

@@ -91,14 +91,14 @@ installed state version n program code =
 
 -- ---- Change: the program starts with the values; the first change of a flow is its epoch 0
 
-abbrev pub next_epoch : Option Epoch → ℕ
-next_epoch None = 0
-next_epoch (Some epoch) = epoch.number + 1
+abbrev pub next_epoch_number : Option Epoch → ℕ
+next_epoch_number None = 0
+next_epoch_number (Some epoch) = epoch.number + 1
 
 abbrev pub changed_flow : Code → ℕ → List Pair → Flow → Flow
 changed_flow code program values flow = record flow {
   machine = started_by code values flow.last flow.machine;
-  epoch = Some (record { program = program; number = next_epoch flow.epoch });
+  epoch = Some (record { program = program; number = next_epoch_number flow.epoch });
   first = flow.count;
 }
 

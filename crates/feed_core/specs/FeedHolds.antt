@@ -11,7 +11,7 @@ use Rattle.ccp_base.specs.Limits.{most_fields, most_flows, most_kept_programs}
 use Rattle.feed_core.specs.declared.flow.Epoch.{Epoch}
 use Rattle.feed_core.specs.declared.flow.Flow.{Flow}
 use Rattle.feed_core.specs.declared.tables.Tables.{Tables}
-use Rattle.feed_core.specs.Feed.{FeedState, Answer, next_epoch, running_code}
+use Rattle.feed_core.specs.Feed.{FeedState, Answer, next_epoch_number, running_code}
 
 -- the code that was accepted
 abbrev pub code_in : Option Checked → Option Code
@@ -38,7 +38,7 @@ RunsOn (Some epoch) version machine (Some (same, code)) = Fits machine code × A
 pub record IsFlow (programs : List (Option Code)) (messages : ℕ) (flow : Flow) : Type 0 where
   pub counted : flow.count ≤ messages
   pub spanned : flow.first ≤ flow.count
-  pub changed : next_epoch flow.epoch ≤ messages
+  pub changed : next_epoch_number flow.epoch ≤ messages
   pub runs : RunsOn flow.epoch flow.version flow.machine (running_code flow.epoch programs)
 
 abbrev pub IsFlowThere : List (Option Code) → ℕ → Option Flow → Type 0

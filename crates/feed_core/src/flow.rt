@@ -4,7 +4,7 @@ ghost use Rattle.std.specs.Prelude.{◌≡◌, ◌+◌, ◌<◌, ◌^◌, true, 
 ghost use Rattle.fold_machine.specs.MachineState.{Fits};
 ghost use Rattle.fold_machine.specs.Heard.{after_acknowledgement};
 ghost use Rattle.ccp_base.specs.FieldReg.{first_bad_pair};
-ghost use Rattle.feed_core.specs.Feed.{fresh_flow, next_epoch, changed_flow, updated_flow};
+ghost use Rattle.feed_core.specs.Feed.{fresh_flow, next_epoch_number, changed_flow, updated_flow};
 ghost use Rattle.feed_core.specs.Feed.{counted_flow, flow_after, message_about};
 
 use ccp_base::{Ack, Fields, NoMemory, Notice, Report};
@@ -62,14 +62,14 @@ impl Flow {
         code: &Checked,
         values: &Fields,
     ) -> Result<(), BadRegister>
-        requires { next_epoch self.old.epoch < 2 ^ 32 }
+        requires { next_epoch_number self.old.epoch < 2 ^ 32 }
         ensures ok { IsOk result ↔ (first_bad_pair (length code.now.code.controls) values.now ≡ None) }
         ensures refused { IfErr result (λ bad. first_bad_pair (length code.now.code.controls) values.now ≡ Some bad.0) }
         ensures changed { OnOk result (self.new ≡ changed_flow code.now.code program values.now self.old) }
         ensures fits { OnOk result (Fits self.new.machine code.now.code) }
         ensures unchanged { OnErr result (self.new ≡ self.old) }
     {
-        let number = next_epoch(self.epoch);
+        let number = next_epoch_number(self.epoch);
         self.machine.start(code, values, self.last)?;
         self.epoch = Some(Epoch { program, number });
         self.first = self.count;
@@ -150,9 +150,9 @@ impl Flow {
 }
 
 /// The number of the epoch after this one.
-fn next_epoch(epoch: Option<Epoch>) -> u32
-    requires { next_epoch epoch < 2 ^ 32 }
-    ensures { result ≡ next_epoch epoch }
+fn next_epoch_number(epoch: Option<Epoch>) -> u32
+    requires { next_epoch_number epoch < 2 ^ 32 }
+    ensures { result ≡ next_epoch_number epoch }
 {
     match epoch {
         None => 0,

@@ -1,8 +1,7 @@
 -- One more letter at the word's end: what holds of a flow and its journal holds of both after it.
-use Rattle.std.specs.Prelude.{◌≡◌, ℕ, ◌+◌, ◌<◌, ◌≤◌, true, ◌&&◌, nat_le, is_some, is_none, Option, Some, None, option_map, unwrap_or, List, [], ◌∷◌, length, refl}
+use Rattle.std.specs.Prelude.{◌≡◌, ℕ, ◌+◌, ◌<◌, true, ◌&&◌, nat_le, is_some, is_none, Option, Some, None, option_map, unwrap_or, List, [], ◌∷◌, length, refl}
 use Rattle.std.proofs.Common.{ap, sym, ◌∙◌, subst, arith, length-append}
 use Rattle.std.proofs.lemmas.Bool.{lt-ltb, true≢false}
-use Rattle.std.proofs.lemmas.List.{length-map}
 use Rattle.std.proofs.lemmas.Option.{none-some}
 use Rattle.ccp_base.specs.declared.ack.Ack.{Ack}
 use Rattle.ccp_base.specs.declared.exchange.Notice.{Notice}
@@ -19,15 +18,15 @@ use Rattle.flow_core.specs.declared.journal.Journal.{Journal}
 use Rattle.flow_core.specs.declared.letter.Letter.TheVariants.{A, T, C}
 use Rattle.flow_core.specs.declared.bare.Issued.{Issued}
 use Rattle.flow_core.specs.Readings.{Flow, over_codes}
-use Rattle.flow_core.specs.World.{Taken, World, notice_of, after_ack, after_take, after_answer}
+use Rattle.flow_core.specs.World.{Taken, World, after_ack, after_take, after_answer}
 use Rattle.flow_core.specs.WordLaws.{acks_in-A, acks_in-T, acks_in-C, world_over-append, legal_over-append}
 use Rattle.flow_core.specs.ReservedLists.{ReservedState}
 use Rattle.flow_core.specs.Books.{ticket_of, out_ticket}
 use Rattle.flow_core.specs.Cores.{acked_as}
 use Rattle.flow_core.specs.States.{issued_as, some_count}
 use Rattle.flow_core.specs.Summaries.{Summary, summary, outcome_at, step_ack, next_telling, with_told, step_take, can_tell, step_reply, step_turn, step_out, step_answer, may_make}
-use Rattle.flow_core.specs.Bares.{BareState, told_ticket, InRange}
-use Rattle.flow_core.specs.Journals.{with_item, with_some, journal_ack, journal_take, journal_answer, new_notice, journal_line, taken_at, line_after, HasSpareRoom, HaveLineRoom, HasLines, Records, world_by, letter_count, IsCore}
+use Rattle.flow_core.specs.Bares.{BareState, told_ticket}
+use Rattle.flow_core.specs.Journals.{with_item, with_some, journal_ack, journal_take, journal_answer, new_notice, journal_line, taken_at, line_after, HaveLineRoom, HasLines, Records, world_by, letter_count, IsCore}
 use Rattle.flow_core.proofs.BothLemmas.{and-right, none-left}
 use Rattle.flow_core.proofs.WordLemmas.{world_over-A, legal_over-A}
 use Rattle.flow_core.proofs.SummaryLemmas.{summary-ack, summary-take, summary-answer, summary-legal}
@@ -40,11 +39,6 @@ count-told : (waiting : List Report) (untold : Option Notice) (s : Summary) → 
 count-told [] None s none some = absurd (true≢false (sym some))
 count-told [] (Some notice) s none some = let none = ap some_count none in omega (arith, none)
 count-told (report ∷ rest) untold s none some = let none = ap some_count none in omega (arith, none)
-
-told-some : (waiting : List Report) (untold : Option Notice) → is_some (next_telling waiting untold) ≡ true → 1 ≤ length waiting + some_count untold
-told-some [] None some = absurd (true≢false (sym some))
-told-some [] (Some notice) some = omega arith
-told-some (report ∷ rest) untold some = omega arith
 
 -- a reply makes no letter
 count-reply : (flow : Flow ℕ) (agent : Agent) (reply : Reply) (s : Summary) → letter_count (step_reply flow agent reply s) ≡ letter_count s
@@ -116,36 +110,6 @@ module _ (bare : BareState) (j : Journal) (core : IsCore bare j) where
 
   pub out-same : told_ticket bare.case bare.summary ≡ out_ticket (over_codes bare.case) (world_by bare j)
   out-same = ap (told_ticket bare.case) core.stands ∙ ticket-same bare.case w
-
-  pub acks-length : length j.acks.items ≡ bare.summary.acks
-  acks-length = ap length core.records.acks ∙ sym (ap (λ (t : Summary). t.acks) core.stands)
-
-  faults-length : length j.faults.items ≡ s.faults
-  faults-length = ap length core.records.faults ∙ length-map w.faults (notice_of flow) ∙ sym (ap (λ (t : Summary). t.faults) core.stands)
-
-  module _ (range : InRange bare.case bare.summary) where
-    module _ (left : bare.summary.acks < bare.case.acks) where
-      pub faults-room : HasSpareRoom j.faults
-      faults-room = omega (arith, faults-length, range.faults, left, core.rooms.faults)
-
-      pub acks-room : HasSpareRoom j.acks
-      acks-room = omega (arith, acks-length, left, core.rooms.acks)
-
-      pub room-A : HasSpareRoom j.word
-      room-A = omega (arith, core.letters, range.tickets, left, core.rooms.word)
-
-    pub room-T : may_make flow s T ≡ true → HasSpareRoom j.word
-    room-T may =
-        let none = ap some_count (none-left s.out (can_tell s) may) in
-        omega (arith, core.letters, none, range.tickets, range.acks, told-some s.waiting s.untold (and-right (is_none s.out) (can_tell s) may), core.rooms.word)
-
-    pub room-C : (ticket : Ticket) → told_ticket bare.case s ≡ Some ticket → HasSpareRoom j.word × HaveLineRoom j.tickets j.epochs
-    room-C ticket is = by s.out refl core.lines where
-      by : (out : Option Issued) → s.out ≡ out → HasLines out j.tickets j.epochs → HasSpareRoom j.word × HaveLineRoom j.tickets j.epochs
-      by None none lines = absurd (none-some ticket (sym (ap (λ (o : Option Issued). told_ticket bare.case (record s { out = o })) none) ∙ is))
-      by (Some issued) some lines =
-          let one = ap some_count some in
-          (omega (arith, core.letters, one, range.tickets, range.acks, core.rooms.word), lines)
 
   -- ---- A
 

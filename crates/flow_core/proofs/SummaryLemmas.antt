@@ -15,11 +15,11 @@ use Rattle.flow_core.specs.declared.letter.Letter.{Letter}
 use Rattle.flow_core.specs.declared.letter.Letter.TheVariants.{A, T, C}
 use Rattle.flow_core.specs.Readings.{Flow}
 use Rattle.flow_core.specs.World.{Failure, Taken, Answered, World, track_of, time_of, failures_met, untold_after, has_room, after_ack, takeable, with_taken, after_take, with_reply, notice_of, told_as, with_turn, answer_applied, after_answer}
-use Rattle.flow_core.specs.Words.{Giving, with_given, after_letter, is_legal, is_complete}
+use Rattle.flow_core.specs.Words.{is_legal, is_complete}
 use Rattle.flow_core.specs.Books.{ticket_line}
 use Rattle.flow_core.specs.LiveText.{reports_told, report_count}
 use Rattle.flow_core.specs.States.{issued_as}
-use Rattle.flow_core.specs.Summaries.{summary, notice_after, step_ack, next_telling, with_told, step_take, step_reply, step_turn, step_out, step_answer, step_given, step_letter, may_make, is_done}
+use Rattle.flow_core.specs.Summaries.{summary, notice_after, step_ack, next_telling, with_told, step_take, step_reply, step_turn, step_out, step_answer, may_make, is_done}
 use Rattle.flow_core.proofs.MappedLemmas.{some-mapped, none-mapped}
 
 -- the time of the last one of a list
@@ -100,18 +100,6 @@ module _ {X : Type 0} (flow : Flow X) where
 
   pub summary-answer : (w : World X) → summary flow (after_answer flow w) ≡ step_answer flow (summary flow w)
   summary-answer w = summary-applied w.out w
-
-  -- ---- a letter
-
-  summary-given : (given : Option Ack) (w : World X) → summary flow (with_given flow given w) ≡ step_given flow given (summary flow w)
-  summary-given None w = refl
-  summary-given (Some ack) w = summary-ack ack w
-
-  pub summary-letter : (giving : Giving X) (letter : Letter) (w : World X)
-      → summary flow (after_letter flow giving w letter) ≡ step_letter flow (giving w) letter (summary flow w)
-  summary-letter giving A w = summary-given (giving w) w
-  summary-letter giving T w = summary-take w
-  summary-letter giving C w = summary-answer w
 
   -- ---- what depends on the summary alone
 

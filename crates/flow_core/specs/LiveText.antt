@@ -107,7 +107,7 @@ answer_text ticket =
     codes " taken=" ⧺ decimal ticket.taken ⧺ codes " answered=" ⧺ decimal ticket.answered
     ⧺ codes " reply=" ⧺ reply_text ticket.reply
 
--- what a ticket told, with this text on its answer between what it is of and what it shows
+-- what a ticket told, with the text of its answer between its head and its fields
 abbrev pub told_text : Sources → Told → List ℕ → List ℕ
 told_text sources (Report report) answer =
     report_head report ⧺ answer ⧺ report_tail (fields_at sources report.program) report

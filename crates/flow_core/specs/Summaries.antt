@@ -137,16 +137,6 @@ step_answer flow s = step_out flow s.out s
 
 -- ---- a letter
 
-abbrev pub step_given : {X : Type 0} → Flow X → Option Ack → Summary → Summary
-step_given flow None s = s
-step_given flow (Some ack) s = step_ack flow ack s
-
--- the summary after one more letter, if this is the next acknowledgement
-abbrev pub step_letter : {X : Type 0} → Flow X → Option Ack → Letter → Summary → Summary
-step_letter flow given A s = step_given flow given s
-step_letter flow given T s = step_take s
-step_letter flow given C s = step_answer flow s
-
 -- ---- legal letters, and complete words
 
 abbrev pub can_tell : Summary → Bool

@@ -95,7 +95,7 @@ impl BareParts {
         ensures summary { IfOk result (λ s. summary_by s ≡ summary (over_codes case) (opening (over_codes case))) }
     {
         match First::of(alloc, &case) {
-            Ok(first) => Ok(BareParts::opened(case, first)),
+            Ok(first) => Ok(BareParts::parts_at_opening(case, first)),
             Err(fault) => {
                 drop(case);
                 Err(fault)
@@ -105,7 +105,7 @@ impl BareParts {
 
     // A function of its own: it can't fail, so the proof has the whole flow at one exit.
     /// A flow of this case that has this before its first letter.
-    fn opened(case: Case, first: First) -> BareParts
+    fn parts_at_opening(case: Case, first: First) -> BareParts
         requires { IsFirst case first }
         ensures parts { IsBare result }
         ensures case { result.case ≡ case }

@@ -28,7 +28,7 @@ fn next(cell: &mut Cell) -> Result<Acked, Ended> {
     take_ack::<Brand>(cell, Blank::new(1))
 }
 
-/// The same. The ledger of the blank counts the instructions.
+/// As `next`, counting the instructions by the ledger of the blank.
 fn take_ack<L: Ledger>(cell: &mut Cell, blank: Blank) -> Result<Acked, Ended>
     requires name { blank.name ≡ L.name }
     requires parts { blank.parts ≡ L.parts }

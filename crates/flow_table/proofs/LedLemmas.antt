@@ -1,6 +1,6 @@
 -- Steps that lead on: the whole leads to what the rest leads to.
-use Rattle.std.specs.Prelude.{◌≡◌, List, [], ◌∷◌, ◌++◌, length, refl}
-use Rattle.std.proofs.Common.{sym, subst, append_assoc, append-nil, arith}
+use Rattle.std.specs.Prelude.{◌≡◌, List, [], ◌∷◌, ◌++◌, length}
+use Rattle.std.proofs.Common.{subst, append-nil, arith}
 use Rattle.flow_table.specs.Led.{IsLedTo, AreLedTo}
 
 module _ {X : Type 0} (Next : X → X → Type 0) where
@@ -11,18 +11,9 @@ module _ {X : Type 0} (Next : X → X → Type 0) where
   pub leads-on : (first present next : X) → LeadsOn first present → Next present next → LeadsOn first next
   leads-on first present next leads step end led = leads end (record { between = next ∷ led.between; steps = (step, led.steps) })
 
-  pub is-led : (first present : X) → LeadsOn first present → IsLedTo Next first present
-  is-led first present leads = leads present (record { between = []; steps = refl })
-
   -- if the rest is led to these, the whole is led to those that are done and these
   abbrev pub LeadOn : List X → List X → List X → Type 0
   LeadOn whole done left = (ends : List X) → AreLedTo Next left ends → AreLedTo Next whole (done ++ ends)
-
-  pub lead-on : (whole done left rest : List X) (flow end : X) → LeadOn whole done left → left ≡ flow ∷ rest → IsLedTo Next flow end
-      → LeadOn whole (done ++ end ∷ []) rest
-  lead-on whole done left rest flow end lead split led ends are =
-      subst (AreLedTo Next whole) (sym (append_assoc done (end ∷ []) ends))
-      (lead (end ∷ ends) (subst (λ (xs : List X). AreLedTo Next xs (end ∷ ends)) (sym split) (led, are)))
 
   pub are-led : (whole done left : List X) → LeadOn whole done left → length left ≡ 0 → AreLedTo Next whole done
   are-led whole done [] lead none = subst (AreLedTo Next whole) (append-nil done) (lead [] tt)

@@ -30,19 +30,6 @@ may-take true true is left = refl
 may-take true false is left = absurd (left refl)
 may-take false can is left = absurd (let wrong : false ≡ true = is in (cc))
 
--- nothing can be taken
-pub nothing-left : (none can : Bool) → (none && not can) ≡ true → can ≡ false
-nothing-left true true still = absurd (let wrong : false ≡ true = still in (cc))
-nothing-left true false still = refl
-nothing-left false can still = absurd (let wrong : false ≡ true = still in (cc))
-
--- acknowledgements are left if a word that isn't complete has no ticket out and nothing to take
-pub acks-left : (more none can : Bool) → (not more && (none && not can)) ≡ false → none ≡ true → can ≡ false → more ≡ true
-acks-left true none can complete is_none nothing = refl
-acks-left false true false complete is_none nothing = absurd (let wrong : true ≡ false = complete in (cc))
-acks-left false true true complete is_none nothing = absurd (let wrong : true ≡ false = nothing in (cc))
-acks-left false false can complete is_none nothing = absurd (let wrong : false ≡ true = is_none in (cc))
-
 -- no ticket is out and the flow isn't still: something can be taken
 pub may-be-taken : (cell : CellState) → out_at cell ≡ None → is_still (world_at cell) ≢ true
     → (is_none (world_at cell).out && can_take (world_at cell)) ≡ true

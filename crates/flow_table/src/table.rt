@@ -55,18 +55,18 @@ impl<F: LockedFlow> FlowTable<F> {
         requires { flow < length self.now }
         ensures { slice_get self.now flow ≡ Some result.now }
     {
-        &self.guarded(flow).case
+        &self.guarded_flow(flow).case
     }
 
     /// The lock of a flow. Whoever holds it makes letters of the flow by the calls of its type.
     pub fn cell(&self, flow: u32) -> &Mutex<F>
         requires { flow < length self.now }
     {
-        &self.guarded(flow).flow
+        &self.guarded_flow(flow).flow
     }
 
     /// A flow with its lock and its case.
-    fn guarded(&self, flow: u32) -> &GuardedFlow<F>
+    fn guarded_flow(&self, flow: u32) -> &GuardedFlow<F>
         requires { flow < length self.now }
         ensures { slice_get self.now flow ≡ Some result.now.case }
     {

@@ -28,7 +28,7 @@ pub fn fold_acks(alloc: Global, built: &Built, acks: &[Ack]) -> Result<Folded, N
     fold_with_counter::<Brand>(alloc, built, acks, Blank::new(1))
 }
 
-/// The same, with the ghost counter of steps that `Machine::ack` takes.
+/// As `fold_acks`, with the ghost counter of steps that `Machine::ack` takes.
 fn fold_with_counter<L: Ledger>(
     alloc: Global,
     built: &Built,

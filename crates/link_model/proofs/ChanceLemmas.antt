@@ -172,14 +172,6 @@ module _ (times : List ℕ) (trace : IsTrace times) where
             omega arith)
       ]
 
-  -- a chance's number is below this bound by its time
-  pub chance_below : (k : ℕ) → k < length times * (chance_time times k + 1)
-  chance_below k =
-      let n = length times in
-      let turns : 1 * (k / n) ≤ period times * (k / n) = mul-le 1 (k / n) (period times) (k / n) trace.period (omega arith) in
-      let bound : n * (k / n + 1) ≤ n * (chance_time times k + 1) = mul-le-mul_left n (omega arith) in
-      omega (arith, div-add-mod k n, place_within k)
-
   -- a chance in an earlier turn, or in this one at an earlier place
   earlier_chance : (at turn place j : ℕ) → period times * turn ≤ (at + 999) / 1000 - 1 → place ≤ length times
       → ((i : ℕ) → i < place → get_or times i 0 < (at + 999) / 1000 - period times * turn) → j < turn * length times + place → chance_time times j < at

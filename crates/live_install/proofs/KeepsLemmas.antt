@@ -32,7 +32,7 @@ use Rattle.live_install.specs.declared.entry.Entry.{Entry}
 use Rattle.live_install.specs.Accounts.{met_in, track_by, HasRun}
 use Rattle.live_install.specs.declared.letter.OpenLetter.{OpenLetter}
 use Rattle.live_install.specs.declared.state.State.{State}
-use Rattle.live_install.specs.OpenWorld.{Installed, Running, OpenWorld, track_of, cwnd_of, bare, met_by, after_ack, eras_of, with_entry, with_next_entry, next_entry, running_of, with_change, after_change}
+use Rattle.live_install.specs.OpenWorld.{Installed, Running, OpenWorld, track_of, cwnd_of, bare, met_by, after_ack, eras_of, world_with_entry, with_next_entry, next_entry, running_of, with_change, after_change}
 use Rattle.live_install.specs.BuiltTexts.{form_or_refusal, built_of}
 use Rattle.live_install.specs.Entries.{installed_of, built_entry, built_at, entry_place}
 use Rattle.live_install.specs.OpenBooks.{Seen, failure_at, seen_of, seen_as}
@@ -205,7 +205,7 @@ keeps-put s w entry entries installed word keeps within pushed counted text came
     let count : length s.entries.items ≡ length w.entries = sym (length-map s.entries.items installed_of) ∙ ap length keeps.entries in
     let next : OpenWorld = record w { entries = w.entries ++ installed_of entry ∷ []; installed = w.installed ++ length w.acks ∷ [] } in
     let is : with_next_entry s.case w ≡ next =
-    (λ i. with_entry ((ap (slice_get s.case.steps) (sym count) ∙ text) i) w)
+    (λ i. world_with_entry ((ap (slice_get s.case.steps) (sym count) ∙ text) i) w)
     ∙ (λ i. record w { entries = w.entries ++ came i ∷ []; installed = w.installed ++ length w.acks ∷ [] }) in
     let whole : Keeps (record (put_state s entry entries installed word) { entries = record { items = s.entries.items ++ entry ∷ []; room = entries.room } }) next = record {
       entries = map-append installed_of s.entries.items (entry ∷ []) ∙ (λ i. keeps.entries i ++ installed_of entry ∷ []);

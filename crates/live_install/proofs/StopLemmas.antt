@@ -16,7 +16,7 @@ use Rattle.flow_core.specs.World.{Failure, Era, failures_met}
 use Rattle.scene_members.specs.declared.open_case.OpenCase.{OpenCase}
 use Rattle.live_install.specs.declared.letter.OpenLetter.{OpenLetter}
 use Rattle.live_install.specs.declared.letter.OpenLetter.TheVariants.{A, I, G}
-use Rattle.live_install.specs.OpenWorld.{Running, OpenWorld, opening, track_of, track_in, track_now, run_in, with_entry, eras_in, eras_of, next_entry, with_change, cwnd_of}
+use Rattle.live_install.specs.OpenWorld.{Running, OpenWorld, opening, track_of, track_in, track_now, run_in, world_with_entry, eras_in, eras_of, next_entry, with_change, cwnd_of}
 use Rattle.live_install.specs.OpenWords.{next_ack, after_letter, world_from, install_world}
 
 -- one of the failures is of the epoch with this number
@@ -116,7 +116,7 @@ module _ (case : OpenCase) where
 
   -- ---- an entry
 
-  stops-entry : (text : Option (List ℕ)) (w : OpenWorld) → StopsIn w → StopsIn (with_entry text w)
+  stops-entry : (text : Option (List ℕ)) (w : OpenWorld) → StopsIn w → StopsIn (world_with_entry text w)
   stops-entry None w so_far = so_far
   stops-entry (Some text) w so_far = so_far
 

@@ -1,5 +1,5 @@
 -- Which letter may come, by what a cell answers, and that it is the one that the caller makes next.
-use Rattle.std.specs.Prelude.{◌≡◌, ◌≤◌, ◌<◌, Bool, true, false, not, is_some, ◌&&◌, Option, Some, None, option_map, List, [], ◌∷◌, ◌++◌, ℕ, ◌+◌, length, refl}
+use Rattle.std.specs.Prelude.{◌≡◌, ◌≤◌, ◌<◌, Bool, true, false, is_some, Option, Some, None, option_map, List, [], ◌∷◌, ◌++◌, ℕ, ◌+◌, length, refl}
 use Rattle.std.proofs.Common.{arith, ap, sym, ◌∙◌, length-append}
 use Rattle.portus_core.specs.Programs.{Form}
 use Rattle.live_install.specs.declared.letter.OpenLetter.{OpenLetter}
@@ -7,20 +7,9 @@ use Rattle.live_install.specs.declared.letter.OpenLetter.TheVariants as letters
 use Rattle.live_install.specs.OpenCells.{OpenState, is_legal_at, most_letters}
 use Rattle.live_install.specs.NextLetter.{next_letter, next_letter_at, HasNext, letters_left}
 
-pub none-next : (next : Option (ℕ × Form)) → option_map (λ (n : ℕ × Form). n.0) next ≡ None → is_some next ≡ false
-none-next None is = refl
-none-next (Some n) is = absurd (let wrong : Some n.0 ≡ None = is in (cc))
-
 pub some-next : (next : Option (ℕ × Form)) (step : ℕ) → option_map (λ (n : ℕ × Form). n.0) next ≡ Some step → is_some next ≡ true
 some-next None step is = absurd (let wrong : None ≡ Some step = is in (cc))
 some-next (Some n) step is = refl
-
--- an acknowledgement is left if a word that isn't complete has no change and no entry left
-pub acks-left : (more entry change : Bool) → (not more && (not entry && not change)) ≡ false → entry ≡ false → change ≡ false → more ≡ true
-acks-left true entry change complete no_entry none = refl
-acks-left false true change complete no_entry none = absurd (let wrong : true ≡ false = no_entry in (cc))
-acks-left false false true complete no_entry none = absurd (let wrong : true ≡ false = none in (cc))
-acks-left false false false complete no_entry none = absurd (let wrong : true ≡ false = complete in (cc))
 
 next-G : (change entry : Bool) → change ≡ true → next_letter change entry ≡ letters.G
 next-G true entry is = refl

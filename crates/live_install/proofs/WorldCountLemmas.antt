@@ -13,7 +13,7 @@ use Rattle.scene_members.specs.declared.open_case.OpenCase.{OpenCase}
 use Rattle.portus_build.specs.TextWalk.{program_of}
 use Rattle.live_install.specs.declared.letter.OpenLetter.{OpenLetter}
 use Rattle.live_install.specs.declared.letter.OpenLetter.TheVariants.{A, I, G}
-use Rattle.live_install.specs.OpenWorld.{Installed, Running, OpenWorld, opening, cwnd_of, run_in, with_entry, was_started, first_left, next_entry, eras_in, eras_of, with_change}
+use Rattle.live_install.specs.OpenWorld.{Installed, Running, OpenWorld, opening, cwnd_of, run_in, world_with_entry, was_started, first_left, next_entry, eras_in, eras_of, with_change}
 use Rattle.live_install.specs.OpenWords.{next_ack, after_letter, world_from, install_world, is_legal, legal_from}
 use Rattle.live_install.specs.WholeBooks.{IsHistory}
 use Rattle.live_install.specs.WordsShown.{without_entries, AreAlike}
@@ -44,7 +44,7 @@ ran-same case ack (Some running) w = (
 -- ---- an entry
 
 put-same : (text : Option (List ℕ)) (w : OpenWorld)
-    → ((with_entry text w).acks ≡ w.acks) × (eras_of (with_entry text w) ≡ eras_of w)
+    → ((world_with_entry text w).acks ≡ w.acks) × (eras_of (world_with_entry text w) ≡ eras_of w)
 put-same None w = (refl, refl)
 put-same (Some text) w = (refl, refl)
 
@@ -99,8 +99,8 @@ module _ (case : OpenCase) where
   text-there w legal = slice_get-get_or case.steps (length w.entries) [] (ltb-true (length w.entries) (length case.steps) legal)
 
   put-is : (w : OpenWorld) → is_legal case w I ≡ true
-      → after_letter case w I ≡ with_entry (Some (get_or case.steps (length w.entries) [])) w
-  put-is w legal = ap (λ text. with_entry text w) (text-there w legal)
+      → after_letter case w I ≡ world_with_entry (Some (get_or case.steps (length w.entries) [])) w
+  put-is w legal = ap (λ text. world_with_entry text w) (text-there w legal)
 
   put-counts : (w : OpenWorld) → is_legal case w I ≡ true → (after_letter case w I).installed ≡ w.installed ++ length w.acks ∷ []
   put-counts w legal = ap (λ (next : OpenWorld). next.installed) (put-is w legal)
@@ -184,7 +184,7 @@ module _ (case : OpenCase) where
       are-in (after_letter case w letter) rest parts.1 (in-after w letter parts.0 are)
 
   counted-put : (text : Option (List ℕ)) (w : OpenWorld) → length w.installed ≡ length w.entries
-      → length (with_entry text w).installed ≡ length (with_entry text w).entries
+      → length (world_with_entry text w).installed ≡ length (world_with_entry text w).entries
   counted-put None w is = is
   counted-put (Some text) w is =
       let installed = length-append w.installed (length w.acks ∷ []) in
@@ -218,7 +218,7 @@ module _ (case : OpenCase) where
   all-ran ack None w = refl
   all-ran ack (Some running) w = refl
 
-  all-put : (text : Option (List ℕ)) (w : OpenWorld) → with-all (with_entry text w) ≡ with-all w
+  all-put : (text : Option (List ℕ)) (w : OpenWorld) → with-all (world_with_entry text w) ≡ with-all w
   all-put None w = refl
   all-put (Some text) w = refl
 

@@ -104,16 +104,16 @@ after_ack case ack w =
 
 -- ---- an entry is installed
 
-abbrev pub with_entry : Option (List ℕ) → OpenWorld → OpenWorld
-with_entry None w = w
-with_entry (Some text) w = record w {
+abbrev pub world_with_entry : Option (List ℕ) → OpenWorld → OpenWorld
+world_with_entry None w = w
+world_with_entry (Some text) w = record w {
   entries = w.entries ++ program_of text ∷ [];
   installed = w.installed ++ length w.acks ∷ [];
 }
 
 -- what the next step's text stands for
 abbrev pub with_next_entry : OpenCase → OpenWorld → OpenWorld
-with_next_entry case w = with_entry (slice_get case.steps (length w.entries)) w
+with_next_entry case w = world_with_entry (slice_get case.steps (length w.entries)) w
 
 -- ---- a change
 

@@ -10,14 +10,13 @@ use Rattle.portus_build.specs.RefusalText.{refusal_text}
 use Rattle.report_lines.specs.declared.end_line.End.{End}
 use Rattle.report_lines.specs.FlowLine.{flow_head}
 use Rattle.report_lines.specs.ReportLine.{report_head, report_tail}
-use Rattle.report_lines.specs.FaultLine.{fault_line}
 use Rattle.report_lines.specs.EndLine.{end_head, end_tail}
 use Rattle.flow_core.specs.declared.book.EpochLine.{EpochLine}
 use Rattle.flow_core.specs.World.{Failure}
 use Rattle.flow_core.specs.Books.{epoch_line}
 use Rattle.scene_members.specs.declared.open_case.OpenCase.{OpenCase}
 use Rattle.live_install.specs.declared.letter.OpenLetter.{OpenLetter}
-pub use Rattle.flow_core.specs.LiveText.{end_of}
+pub use Rattle.flow_core.specs.LiveText.{end_of, fault_lines}
 use Rattle.live_install.specs.OpenWorld.{Installed, OpenWorld, eras_of, track_now}
 use Rattle.live_install.specs.OpenWords.{install_world}
 
@@ -102,10 +101,6 @@ change_line number epoch =
 abbrev pub change_lines : ℕ → List EpochLine → List ℕ
 change_lines number [] = []
 change_lines number (epoch ∷ rest) = change_line number epoch ⧺ change_lines (number + 1) rest
-
-abbrev pub fault_lines : List (Failure Place) → List ℕ
-fault_lines [] = []
-fault_lines (failure ∷ rest) = fault_line failure.epoch failure.at failure.kind failure.site ⧺ fault_lines rest
 
 -- each report with the fields of its step's program
 abbrev pub shown_lines : List Installed → List Report → List ℕ

@@ -11,7 +11,7 @@ use flow_core::EpochLine;
 use portus_build::{BuildFault, put_refusal};
 use std::alloc::Global;
 
-/// Puts the lines of entries at the end of a text, each with the number of acknowledgements at which it was installed.
+/// Appends the lines of entries to a text, each with the number of acknowledgements at which it was installed.
 pub(crate) fn put_entries(
     alloc: Global,
     text: &mut Bytes,
@@ -81,7 +81,7 @@ fn put_refused_head(alloc: Global, text: &mut Bytes, step: u64, at: u32) -> Resu
     Ok(())
 }
 
-/// Puts the lines of changes at the end of a text.
+/// Appends the lines of changes to a text.
 pub(crate) fn put_changes(
     alloc: Global,
     text: &mut Bytes,

@@ -139,7 +139,7 @@ fn fields_of<'a>(entry: &'a Entry) -> &'a [Decl]
     }
 }
 
-/// Puts the last line of a flow at the end of a text.
+/// Appends the last line of a flow to a text.
 fn put_last(alloc: Global, text: &mut Bytes, book: &OpenBook) -> Result<(), NoMemory>
     ensures { OnOk result (text.new ≡ text.old ++ last_line (account_in book.now)) }
 {

@@ -39,8 +39,8 @@ fn first_open_cell(alloc: Global, text: &[u8]) -> Result<OpenCell, Fail> {
     cell
 }
 
-/// An entry of the second step is late, and nothing is left to change to.
-fn refuses(rt: &impl Abort, alloc: Global, cell: &mut OpenCell) -> Result<(), Fail> {
+/// Asserts that an entry of the second step is late, and that nothing is left to change to.
+fn assert_refused(rt: &impl Abort, alloc: Global, cell: &mut OpenCell) -> Result<(), Fail> {
     let second = Entry::make(alloc, 1, b"(def) (when x)")?;
     assert!(rt; next_instead(cell, second) == Some(0));
     assert!(rt; cell.change() == Err(Nothing));
@@ -50,7 +50,7 @@ fn refuses(rt: &impl Abort, alloc: Global, cell: &mut OpenCell) -> Result<(), Fa
 #[test]
 fn a_late_entry_is_refused(rt: HostRuntime) -> Result<(), Fail> {
     let mut cell = first_open_cell(rt.alloc(), REFUSED)?;
-    let refused = refuses(&rt, rt.alloc(), &mut cell);
+    let refused = assert_refused(&rt, rt.alloc(), &mut cell);
     drop(cell);
     refused
 }

@@ -49,6 +49,7 @@ fn number_of(decls: &[Decl], name: &[u8]) -> Option<u32>
     Some(index as u32)
 }
 
+// A function of its own: a search followed by `?` isn't proved in one function.
 fn index_of(decls: &[Decl], name: &[u8]) -> Option<usize>
     ensures index { result ≡ position (has_name name.now) decls.now }
     ensures within { ForSome result (λ i. i < length decls.now) }

@@ -15,7 +15,7 @@ use Rattle.ccp_base.specs.Blending.{moving_average}
 use Rattle.ccp_base.specs.Chaining.{then_do}
 use Rattle.ccp_base.specs.Truth.{is_true}
 use Rattle.portus_core.specs.Value.{Cause, at_place, read_of}
-use Rattle.portus_core.specs.Command.{Going, written, written_where, value_in, command_of, run_commands}
+use Rattle.portus_core.specs.Command.{Going, with_written, written_where, value_in, command_of, run_commands}
 use Rattle.portus_core.specs.Blocks.{before_blocks, at_block, after_body, after_condition, blocks_of}
 use Rattle.portus_core.specs.OneAcknowledgement.{IsEnvOf, reset, answered, settled, one_of}
 use Rattle.portus_core.specs.Epoch.{with_value, with_values, declared_env}
@@ -51,7 +51,7 @@ IfOk-then_do_from (Err fault) next Q P holds keeps = tt
 abbrev Keeps : Form → Going → Type 0
 Keeps form going = IsEnvOf form going.env
 
-IsEnvOf-written : (form : Form) (v : Var) (value : ℕ) (going : Going) → Keeps form going → Keeps form (written v value going)
+IsEnvOf-written : (form : Form) (v : Var) (value : ℕ) (going : Going) → Keeps form going → Keeps form (with_written v value going)
 IsEnvOf-written form (var.Field i) value going shape = record {
   fields = length-set going.env.fields i value ∙ shape.fields;
   controls = shape.controls;
@@ -72,7 +72,7 @@ IsEnvOf-written_where form false v value going shape = shape
 
 IsEnvOf-command : (form : Form) (action : Action) (ack : Ack) (going : Going) → Keeps form going → IfOk (command_of action ack going) (Keeps form)
 IsEnvOf-command form (set v term) ack going shape =
-    IfOk-then_do (value_in term ack going) (λ value. Ok (written v value going)) (Keeps form) (λ value. IsEnvOf-written form v value going shape)
+    IfOk-then_do (value_in term ack going) (λ value. Ok (with_written v value going)) (Keeps form) (λ value. IsEnvOf-written form v value going shape)
 IsEnvOf-command form (set_if place v condition term) ack going shape =
     IfOk-then_do (value_in condition ack going) (λ held. then_do (value_in term ack going) (λ value. Ok (written_where (is_true held) v value going))) (Keeps form) (λ held.
     IfOk-then_do (value_in term ack going) (λ value. Ok (written_where (is_true held) v value going)) (Keeps form) (λ value.
@@ -82,8 +82,8 @@ IsEnvOf-command form (set_unless place v condition term) ack going shape =
     IfOk-then_do (value_in term ack going) (λ value. Ok (written_where (not (is_true held)) v value going)) (Keeps form) (λ value.
     IsEnvOf-written_where form (not (is_true held)) v value going shape))
 IsEnvOf-command form (ewma place v weight term) ack going shape =
-    IfOk-then_do (value_in term ack going) (λ value. then_do (at_place place (moving_average weight (read_of v going.env going.locals ack) value)) (λ mixed. Ok (written v mixed going))) (Keeps form) (λ value.
-    IfOk-then_do (at_place place (moving_average weight (read_of v going.env going.locals ack) value)) (λ mixed. Ok (written v mixed going)) (Keeps form) (λ mixed.
+    IfOk-then_do (value_in term ack going) (λ value. then_do (at_place place (moving_average weight (read_of v going.env going.locals ack) value)) (λ mixed. Ok (with_written v mixed going))) (Keeps form) (λ value.
+    IfOk-then_do (at_place place (moving_average weight (read_of v going.env going.locals ack) value)) (λ mixed. Ok (with_written v mixed going)) (Keeps form) (λ mixed.
     IsEnvOf-written form v mixed going shape))
 IsEnvOf-command form zero_micros ack going shape = record { fields = shape.fields; controls = shape.controls }
 IsEnvOf-command form report ack going shape = shape

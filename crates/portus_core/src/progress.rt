@@ -3,7 +3,7 @@ ghost use Rattle.std.specs.Prelude.{◌≡◌, IsTrue, slice_set};
 ghost use Rattle.portus_core.specs.Programs.{term_of};
 ghost use Rattle.portus_core.specs.Value.{read_of};
 ghost use Rattle.portus_core.specs.Runnable.{has_place};
-ghost use Rattle.portus_core.specs.Command.{written, written_where, value_in};
+ghost use Rattle.portus_core.specs.Command.{with_written, written_where, value_in};
 ghost use Rattle.portus_core.specs.Blocks.{before_blocks, at_block};
 ghost use Rattle.portus_core.specs.Progress.{going_of};
 
@@ -60,7 +60,7 @@ impl Progress {
     /// Assigns the value; a variable that doesn't exist is ignored.
     pub fn write(&mut self, var: Var, value: u64)
         requires { IsTrue (has_place var) }
-        ensures { going_of self.new ≡ written var value (going_of self.old) }
+        ensures { going_of self.new ≡ with_written var value (going_of self.old) }
     {
         match var {
             Var::Field(i) => write_number(&mut self.env.fields, i, value),

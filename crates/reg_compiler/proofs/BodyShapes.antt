@@ -12,7 +12,7 @@ use Rattle.ccp_base.specs.Chaining.{then_do}
 use Rattle.ccp_base.specs.Truth.{is_true}
 use Rattle.portus_core.specs.Value.{at_place, read_of}
 use Rattle.ccp_base.specs.Blending.{moving_average}
-use Rattle.portus_core.specs.Command.{Going, with_local, written, written_where, value_in, command_of, run_commands}
+use Rattle.portus_core.specs.Command.{Going, with_local, with_written, written_where, value_in, command_of, run_commands}
 use Rattle.portus_core.specs.ValidPrograms.{KnownNames, is_next_local, term_is_truth, known_after}
 use Rattle.portus_core.specs.ValidPrograms as names
 
@@ -28,7 +28,7 @@ local-written : (known : KnownNames) (going : Going) (i value : ℕ) → Fits kn
 local-written known going i value fits j below =
     elim (j == i) as (λ b. cond b (Some value) (going.locals j) ≡ Some (unwrap_or (cond b (Some value) (going.locals j)) 0)) [ true ↦ refl | false ↦ fits.locals j below ]
 
-Fits-written : (known : KnownNames) (v : Var) (value : ℕ) (going : Going) → Fits known going → Fits known (written v value going)
+Fits-written : (known : KnownNames) (v : Var) (value : ℕ) (going : Going) → Fits known going → Fits known (with_written v value going)
 Fits-written known (var.Field i) value going fits = record {
   sized = record { fields = length-set going.env.fields i value ∙ fits.sized.fields; controls = fits.sized.controls };
   locals = fits.locals;
@@ -53,7 +53,7 @@ next-written known told true going i value j next fits is below = refl
 next-written known told false going i value j next fits is below =
     fits.locals j (omega (arith, below, length-append known.locals (told ∷ []), next, eqb-false j i is))
 
-Fits-next : (known : KnownNames) (v : Var) (told : Bool) (value : ℕ) (going : Going) → is_next_local known v ≡ true → Fits known going → Fits (names.with_known_local known true told) (written v value going)
+Fits-next : (known : KnownNames) (v : Var) (told : Bool) (value : ℕ) (going : Going) → is_next_local known v ≡ true → Fits known going → Fits (names.with_known_local known true told) (with_written v value going)
 Fits-next known (var.Local i) told value going is fits = record {
   sized = record { fields = fits.sized.fields; controls = fits.sized.controls };
   locals = λ j below. next-written known told (j == i) going i value j (eqb-true i (length known.locals) (and_parts (i == length known.locals) (nat_lt i 8) is).0) fits refl below;
@@ -65,7 +65,7 @@ Fits-next known var.Cwnd told value going is fits = absurd (cc)
 Fits-next known var.Rate told value going is fits = absurd (cc)
 Fits-next known var.Micros told value going is fits = absurd (cc)
 
-Fits-set : (known : KnownNames) (v : Var) (is told : Bool) (value : ℕ) (going : Going) → is_next_local known v ≡ is → Fits known going → Fits (names.with_known_local known is told) (written v value going)
+Fits-set : (known : KnownNames) (v : Var) (is told : Bool) (value : ℕ) (going : Going) → is_next_local known v ≡ is → Fits known going → Fits (names.with_known_local known is told) (with_written v value going)
 Fits-set known v true told value going is fits = Fits-next known v told value going is fits
 Fits-set known v false told value going is fits = Fits-written known v value going fits
 
@@ -75,7 +75,7 @@ IfOk-then_do (Err fault) next P keeps = tt
 
 pub Fits-command : (known : KnownNames) (action : Action) (ack : Ack) (going : Going) → Fits known going → IfOk (command_of action ack going) (Fits (known_after known action))
 Fits-command known (set v term) ack going fits =
-    IfOk-then_do (value_in term ack going) (λ value. Ok (written v value going)) (Fits (known_after known (set v term)))
+    IfOk-then_do (value_in term ack going) (λ value. Ok (with_written v value going)) (Fits (known_after known (set v term)))
     (λ value. Fits-set known v (is_next_local known v) (term_is_truth known term) value going refl fits)
 Fits-command known (set_if place v condition term) ack going fits =
     IfOk-then_do (value_in condition ack going) (λ held. then_do (value_in term ack going) (λ value. Ok (written_where (is_true held) v value going))) (Fits known) (λ held.
@@ -86,8 +86,8 @@ Fits-command known (set_unless place v condition term) ack going fits =
     IfOk-then_do (value_in term ack going) (λ value. Ok (written_where (not (is_true held)) v value going)) (Fits known) (λ value.
     Fits-written_where known (not (is_true held)) v value going fits))
 Fits-command known (ewma place v weight term) ack going fits =
-    IfOk-then_do (value_in term ack going) (λ value. then_do (at_place place (moving_average weight (read_of v going.env going.locals ack) value)) (λ mixed. Ok (written v mixed going))) (Fits known) (λ value.
-    IfOk-then_do (at_place place (moving_average weight (read_of v going.env going.locals ack) value)) (λ mixed. Ok (written v mixed going)) (Fits known) (λ mixed.
+    IfOk-then_do (value_in term ack going) (λ value. then_do (at_place place (moving_average weight (read_of v going.env going.locals ack) value)) (λ mixed. Ok (with_written v mixed going))) (Fits known) (λ value.
+    IfOk-then_do (at_place place (moving_average weight (read_of v going.env going.locals ack) value)) (λ mixed. Ok (with_written v mixed going)) (Fits known) (λ mixed.
     Fits-written known v mixed going fits))
 Fits-command known zero_micros ack going fits = record { sized = record { fields = fits.sized.fields; controls = fits.sized.controls }; locals = fits.locals }
 Fits-command known report ack going fits = record { sized = fits.sized; locals = fits.locals }

@@ -21,7 +21,7 @@ use Rattle.portus_core.specs.ValidPrograms.{KnownNames, is_known, is_term, is_tr
 use Rattle.reg_code.specs.declared.code.Op.{Op}
 use Rattle.reg_code.specs.declared.code.Op.TheVariants as op
 use Rattle.ccp_base.specs.Chaining.{then_do}
-use Rattle.reg_code.specs.CodeStep.{Variables, Regs, register_value, written, put, with_operand}
+use Rattle.reg_code.specs.CodeStep.{Variables, Regs, register_value, with_written, put, with_operand}
 use Rattle.ccp_base.specs.Blending.{moving_average as mixed_as}
 use Rattle.reg_code.specs.CodeStep as code
 use Rattle.reg_compiler.specs.declared.line.Line.{Line}
@@ -58,7 +58,7 @@ Reads-regs_of known going flag temps ack fits var.Cwnd is = refl
 Reads-regs_of known going flag temps ack fits var.Rate is = refl
 Reads-regs_of known going flag temps ack fits var.Micros is = refl
 
-written-regs_of : (v : Var) (value : ℕ) (ack : Ack) (going : Going) (flag : ℕ) (temps : Variables) → is_writable v ≡ true → written (variable_reg v) value ack (regs_of going flag temps) ≡ regs_of (source.written v value going) flag temps
+written-regs_of : (v : Var) (value : ℕ) (ack : Ack) (going : Going) (flag : ℕ) (temps : Variables) → is_writable v ≡ true → with_written (variable_reg v) value ack (regs_of going flag temps) ≡ regs_of (source.with_written v value going) flag temps
 written-regs_of (var.Field i) value ack going flag temps is = refl
 written-regs_of (var.Control i) value ack going flag temps is = refl
 written-regs_of (var.Local i) value ack going flag temps is = refl
@@ -73,7 +73,7 @@ written_where-regs_of false v value ack going flag temps is = refl
 
 -- an assignment
 told-went : (result : Result ℕ Cause) (v : Var) (ack : Ack) (going : Going) (flag : ℕ) (before temps : Variables) → is_writable v ≡ true
-    → told result (variable_reg v) ack (regs_of going flag before) temps ≡ went (then_value result (λ value. Ok (source.written v value going))) flag temps
+    → told result (variable_reg v) ack (regs_of going flag before) temps ≡ went (then_value result (λ value. Ok (source.with_written v value going))) flag temps
 told-went (Ok value) v ack going flag before temps is = ap (λ (r : Regs). Ok r) (written-regs_of v value ack going flag temps is)
 told-went (Err cause) v ack going flag before temps is = refl
 
@@ -96,7 +96,7 @@ unless-went (Err cause) result v place ack going flag before temps is = refl
 ewma-went : (result : Result ℕ Cause) (weight old : ℕ) (v : Var) (place : Place) (ack : Ack) (going : Going) (flag : ℕ) (before temps : Variables) → is_writable v ≡ true
     → register_value (variable_reg v) (regs_of going flag temps) ack ≡ Some old
     → operated op.Ewma (variable_reg v) place (Ok weight) result ack (regs_of going flag before) temps
-    ≡ went (then_value result (λ value. then_value (at_place place (moving_average weight old value)) (λ mixed. Ok (source.written v mixed going)))) flag temps
+    ≡ went (then_value result (λ value. then_value (at_place place (moving_average weight old value)) (λ mixed. Ok (source.with_written v mixed going)))) flag temps
 ewma-went (Ok value) weight old v place ack going flag before temps is reads =
     ap (λ register_value. placed place (with_operand register_value (λ old. put (variable_reg v) (mixed_as weight old value) ack (regs_of going flag temps)))) reads
     ∙ placed-put place (variable_reg v) (mixed_as weight old value) ack (regs_of going flag temps)

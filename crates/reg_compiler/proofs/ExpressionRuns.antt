@@ -15,7 +15,7 @@ use Rattle.portus_core.specs.ValidPrograms.{KnownNames, is_term}
 use Rattle.reg_code.specs.declared.code.Reg.{Reg}
 use Rattle.reg_code.specs.declared.code.Reg.TheVariants as reg
 use Rattle.ccp_base.specs.Chaining.{then_do}
-use Rattle.reg_code.specs.CodeStep.{Variables, Regs, written, put, effect, with_operand}
+use Rattle.reg_code.specs.CodeStep.{Variables, Regs, with_written, put, effect, with_operand}
 use Rattle.reg_code.specs.declared.code.Op.{Op}
 use Rattle.reg_code.specs.declared.code.Op.TheVariants as op
 use Rattle.reg_compiler.specs.declared.line.Line.{Line}
@@ -25,17 +25,17 @@ use Rattle.reg_compiler.proofs.LineRuns.{Halt, placed, run_lines, halting, with_
 use Rattle.reg_compiler.proofs.OperandRuns.{Reads, Reads-with_temps, Works, Works-direct_operand, Works-name, Works-pair, operated, Comes-operation_lines}
 use Rattle.reg_compiler.proofs.KnownLaws.{known_value-value}
 
-pub placed-put : (place : Place) (to : Reg) (result : Result ℕ FaultKind) (ack : Ack) (regs : Regs) → placed place (put to result ack regs) ≡ halting (at_place place result) (λ value. Ok (written to value ack regs))
+pub placed-put : (place : Place) (to : Reg) (result : Result ℕ FaultKind) (ack : Ack) (regs : Regs) → placed place (put to result ack regs) ≡ halting (at_place place result) (λ value. Ok (with_written to value ack regs))
 placed-put place to (Ok value) ack regs = refl
 placed-put place to (Err kind) ack regs = refl
 
 -- the code's operation is the source's
-placed-effect : (o : Op2) (to : Reg) (place : Place) (a b : ℕ) (ack : Ack) (regs : Regs) → placed place (effect (op.Pair o) to a b ack regs) ≡ halting (at_place place (apply o a b)) (λ value. Ok (written to value ack regs))
+placed-effect : (o : Op2) (to : Reg) (place : Place) (a b : ℕ) (ack : Ack) (regs : Regs) → placed place (effect (op.Pair o) to a b ack regs) ≡ halting (at_place place (apply o a b)) (λ value. Ok (with_written to value ack regs))
 placed-effect o to place a b ack regs = placed-put place to (apply o a b) ack regs
 
 -- an expression's value in a register
 abbrev pub told : Result ℕ Cause → Reg → Ack → Regs → Variables → Result Regs Halt
-told result to ack regs temps = halting result (λ value. Ok (written to value ack (with_temps regs temps)))
+told result to ack regs temps = halting result (λ value. Ok (with_written to value ack (with_temps regs temps)))
 
 operated-told : (o : Op2) (to : Reg) (place : Place) (left right : Result ℕ Cause) (ack : Ack) (regs : Regs) (temps : Variables)
     → operated (op.Pair o) to place left right ack regs temps ≡ told (then_value left (λ a. then_value right (λ b. at_place place (apply o a b)))) to ack regs temps

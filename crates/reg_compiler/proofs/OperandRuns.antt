@@ -12,7 +12,7 @@ use Rattle.reg_code.specs.declared.code.Op.{Op}
 use Rattle.reg_code.specs.declared.code.Reg.{Reg}
 use Rattle.reg_code.specs.declared.code.Reg.TheVariants as reg
 use Rattle.ccp_base.specs.Chaining.{then_do}
-use Rattle.reg_code.specs.CodeStep.{Variables, with_value_at, Regs, register_value, written, with_operand, effect}
+use Rattle.reg_code.specs.CodeStep.{Variables, with_value_at, Regs, register_value, with_written, with_operand, effect}
 use Rattle.reg_compiler.specs.declared.line.Line.{Line}
 use Rattle.reg_compiler.specs.CompiledCode.{variable_reg, code_line, next_free, unless_direct}
 use Rattle.reg_compiler.proofs.LineRuns.{Halt, placed, run_lines, halting, with_temps, SameBelow, Comes, then_do-Ok, run_lines-append}
@@ -64,7 +64,7 @@ written-there temps free value = ap (λ b. cond b (Some value) (temps free)) (eq
 
 -- the lines write it into the first free temporary
 pub Works-value_lines : (result : Result ℕ Cause) (lines : List Line) (free : ℕ) (ack : Ack) (regs : Regs)
-    → Comes lines free ack regs (λ temps. halting result (λ value. Ok (written (reg.Temp free) value ack (with_temps regs temps))))
+    → Comes lines free ack regs (λ temps. halting result (λ value. Ok (with_written (reg.Temp free) value ack (with_temps regs temps))))
     → Works result lines (reg.Temp free) free (free + 1) ack regs
 Works-value_lines (Ok value) lines free ack regs comes = record {
   temps = with_value_at comes.temps free value;
@@ -82,7 +82,7 @@ Works-value_lines (Err cause) lines free ack regs comes = record {
 -- a known value needs no lines
 pub Works-pair : (known : Option ℕ) (result : Result ℕ Cause) (lines : List Line) (free : ℕ) (ack : Ack) (regs : Regs)
     → ((value : ℕ) → known ≡ Some value → result ≡ Ok value)
-    → Comes lines free ack regs (λ temps. halting result (λ value. Ok (written (reg.Temp free) value ack (with_temps regs temps))))
+    → Comes lines free ack regs (λ temps. halting result (λ value. Ok (with_written (reg.Temp free) value ack (with_temps regs temps))))
     → Works result (unless_direct (option_map reg.Imm known) lines) (unwrap_or (option_map reg.Imm known) (reg.Temp free)) free (next_free (option_map reg.Imm known) free) ack regs
 Works-pair (Some value) (Ok other) lines free ack regs is comes =
     Works-direct_operand (reg.Imm value) other free ack regs (λ more. sym (same_value other value (is value refl)))

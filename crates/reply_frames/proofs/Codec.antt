@@ -127,7 +127,7 @@ writes-last part made x text one = record { again = λ rest. ap (λ read. read >
 abbrev pub IsReadBy : {A : Type 0} → (List ℕ → Read A) → (A → List ℕ) → (A → Type 0) → Type 0
 IsReadBy {A} part text Valid = (bytes : List ℕ) (x : A × List ℕ) → AllBytes bytes → part bytes ≡ Ok x → IsSpelled bytes (text x.0) x.1 × Valid x.0
 
--- what is read is so of what was read from
+-- the value was read from a front of the bytes, and both have this property
 pub record Was {B : Type 0} (Q : B → List ℕ → Type 0) (bytes : List ℕ) (y : B × List ℕ) : Type 0 where
   pub text : List ℕ
   pub spelled : IsSpelled bytes text y.1

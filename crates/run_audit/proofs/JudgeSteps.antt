@@ -4,7 +4,7 @@ use Rattle.std.specs.List.{All}
 use Rattle.flow_core.specs.declared.case.Case.{Case}
 use Rattle.reg_compiler.specs.Sources.{Sources}
 use Rattle.run_audit.specs.declared.verdict.Verdict.TheVariants.{No}
-use Rattle.run_audit.specs.PartLeft.{part_left, judged}
+use Rattle.run_audit.specs.PartLeft.{part_left, verdict_on}
 
 pub all_first : (P : Case → Type 0) (cases : List Case) (case : Case) (later : List Case) → cases ≡ case ∷ later → All P cases → P case
 all_first P cases case later is all = let all_of : All P (case ∷ later) = subst (λ (l : List Case). All P l) is all in all_of 0 case (omega arith)
@@ -13,6 +13,6 @@ pub all_later : (P : Case → Type 0) (cases : List Case) (case : Case) (later :
 all_later P cases case later is all = let all_of : All P (case ∷ later) = subst (λ (l : List Case). All P l) is all in λ k d below. all_of (suc k) d (omega (arith, below))
 
 pub judged_there : (sources : Sources) (cases : List Case) (case : Case) (later : List Case) (count : ℕ) (text left : List ℕ) → cases ≡ case ∷ later → Some left ≡ part_left sources case text
-    → judged sources cases count text ≡ judged sources later (count + 1) left
+    → verdict_on sources cases count text ≡ verdict_on sources later (count + 1) left
 judged_there sources cases case later count text left is there =
-    ap (λ l. judged sources l count text) is ∙ ap (λ o. unwrap_or (option_map (judged sources later (count + 1)) o) (No count)) (sym there)
+    ap (λ l. verdict_on sources l count text) is ∙ ap (λ o. unwrap_or (option_map (verdict_on sources later (count + 1)) o) (No count)) (sym there)

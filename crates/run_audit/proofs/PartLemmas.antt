@@ -1,4 +1,4 @@
--- What is left after a part is so exactly if the text begins with the part of a legal and complete word.
+-- A rest is what is left after a part if and only if the text is the part of a legal and complete word and this rest.
 use Rattle.std.proofs.Common.{◌≡◌, ℕ, ◌^◌, ◌<◌, Bool, true, false, ◌&&◌, Option, Some, None, List, ◌++◌, refl, ap, sym, ◌∙◌, arith, cond, append_assoc}
 use Rattle.flow_core.specs.declared.case.Case.{Case}
 use Rattle.flow_core.specs.declared.letter.Letter.{Letter}

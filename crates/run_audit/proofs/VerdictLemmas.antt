@@ -7,7 +7,7 @@ use Rattle.flow_core.specs.LiveText.{live_text}
 use Rattle.run_audit.specs.declared.verdict.Verdict.{Verdict}
 use Rattle.run_audit.specs.declared.verdict.Verdict.TheVariants.{Yes, No}
 use Rattle.run_audit.specs.Audit.{AreWordsOf, with_words, IsLiveText, BeginsWithLiveText, IsNot, IsVerdict}
-use Rattle.run_audit.specs.PartLeft.{part_left, judged}
+use Rattle.run_audit.specs.PartLeft.{part_left, verdict_on}
 use Rattle.run_audit.proofs.LineReadings.{HasPlainNames}
 use Rattle.run_audit.proofs.PartLemmas.{some_same, HasPart, part_of_word, left-of_part, part-of_left}
 
@@ -117,9 +117,9 @@ module _ (sources : Sources) (named : HasPlainNames sources) where
   one_more case cases count text left is Yes said = first_live case cases text left is said
   one_more case cases count text left is (No flow) (more, number, not) = (suc more, omega (arith, number), first_there case cases text left more is not)
 
-  judged-said : (cases : List Case) (count : ℕ) (text : List ℕ) → IsSaid cases count text (judged sources cases count text)
-  judged-said [] count [] = record { words = []; are = tt; whole = refl }
-  judged-said [] count (byte ∷ rest) = (
+  verdict_on-said : (cases : List Case) (count : ℕ) (text : List ℕ) → IsSaid cases count text (verdict_on sources cases count text)
+  verdict_on-said [] count [] = record { words = []; are = tt; whole = refl }
+  verdict_on-said [] count (byte ∷ rest) = (
     0,
     omega arith,
     record {
@@ -129,17 +129,17 @@ module _ (sources : Sources) (named : HasPlainNames sources) where
       greatest = λ more within begins. within;
     },
   )
-  judged-said (case ∷ cases) count text = go (λ left. judged-said cases (count + 1) left) (part_left sources case text) refl
+  verdict_on-said (case ∷ cases) count text = go (λ left. verdict_on-said cases (count + 1) left) (part_left sources case text) refl
     where
-      go : ((left : List ℕ) → IsSaid cases (count + 1) left (judged sources cases (count + 1) left)) → (o : Option (List ℕ)) → part_left sources case text ≡ o
-          → IsSaid (case ∷ cases) count text (unwrap_or (option_map (judged sources cases (count + 1)) o) (No count))
+      go : ((left : List ℕ) → IsSaid cases (count + 1) left (verdict_on sources cases (count + 1) left)) → (o : Option (List ℕ)) → part_left sources case text ≡ o
+          → IsSaid (case ∷ cases) count text (unwrap_or (option_map (verdict_on sources cases (count + 1)) o) (No count))
       go again None is = (0, omega arith, none_there case cases text is)
-      go again (Some left) is = one_more case cases count text left is (judged sources cases (count + 1) left) (again left)
+      go again (Some left) is = one_more case cases count text left is (verdict_on sources cases (count + 1) left) (again left)
 
   said_verdict : (cases : List Case) (text : List ℕ) (verdict : Verdict) → IsSaid cases 0 text verdict → IsVerdict sources cases text verdict
   said_verdict cases text Yes said = said
   said_verdict cases text (No flow) (more, number, not) =
       let same : more ≡ flow = omega (arith, number) in subst (λ (n : ℕ). IsNot sources cases text n) same not
 
-  pub verdict_is : (cases : List Case) (text : List ℕ) → IsVerdict sources cases text (judged sources cases 0 text)
-  verdict_is cases text = said_verdict cases text (judged sources cases 0 text) (judged-said cases 0 text)
+  pub verdict_is : (cases : List Case) (text : List ℕ) → IsVerdict sources cases text (verdict_on sources cases 0 text)
+  verdict_is cases text = said_verdict cases text (verdict_on sources cases 0 text) (verdict_on-said cases 0 text)

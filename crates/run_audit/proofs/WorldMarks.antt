@@ -80,9 +80,6 @@ module _ {X : Type 0} (flow : Flow X) (link : LinkCase) where
         ap (λ (v : World X). v.out) same ∙ reply-out w.agent turned.1 told,
       )
 
-  marks-of : (w v : World X) → v.answered ≡ w.answered → v.out ≡ w.out → world_marks v ≡ world_marks w
-  marks-of w v answered out = ap (λ (a : List (Answered X)). answered_marks a ++ out_marks v.out) answered ∙ ap (λ (o : Option (Taken X)). answered_marks w.answered ++ out_marks o) out
-
   -- nothing is out, and something can be taken
   taken-marks : (w : World X) (o : Option (Content X × (List Report × Option (Failure X)))) → is_some o ≡ true → w.out ≡ None
       → world_marks (with_taken o w) ≡ world_marks w ++ record { at = length w.acks; letter = T } ∷ []

@@ -45,8 +45,8 @@ abbrev pub part_left : Sources → Case → List ℕ → Option (List ℕ)
 part_left sources case text = body_left sources case (text_after (flow_line case.flow case.name case.agent) text)
 
 -- the verdict, case by case, after this many parts
-abbrev pub judged : Sources → List Case → ℕ → List ℕ → Verdict
-judged sources [] count [] = Yes
-judged sources [] count (byte ∷ rest) = No count
-judged sources (case ∷ cases) count text =
-    unwrap_or (option_map (judged sources cases (count + 1)) (part_left sources case text)) (No count)
+abbrev pub verdict_on : Sources → List Case → ℕ → List ℕ → Verdict
+verdict_on sources [] count [] = Yes
+verdict_on sources [] count (byte ∷ rest) = No count
+verdict_on sources (case ∷ cases) count text =
+    unwrap_or (option_map (verdict_on sources cases (count + 1)) (part_left sources case text)) (No count)

@@ -6,7 +6,7 @@ ghost use Rattle.reg_compiler.specs.Sources.{sources_of};
 ghost use Rattle.source_flow.specs.Sourced.{IsSourced};
 ghost use Rattle.run_audit.specs.declared.verdict.Verdict.TheVariants.{Yes, No};
 ghost use Rattle.run_audit.specs.Audit.{IsLiveText, IsNot, IsVerdict, IsVerdictOf};
-ghost use Rattle.run_audit.specs.PartLeft.{judged};
+ghost use Rattle.run_audit.specs.PartLeft.{verdict_on};
 
 use crate::part::part_left;
 use crate::verdict::Verdict;
@@ -37,7 +37,7 @@ pub fn audit(alloc: Global, scene: &Scenario, text: &[u8]) -> Result<Verdict, No
 fn judge(alloc: Global, programs: &Builts, cases: &[Case], text: &[u8]) -> Result<Verdict, NoMemory>
     requires few { length cases.now ≤ most_flows }
     requires sourced { All (IsSourced programs.now) cases.now }
-    ensures { IfOk result (λ verdict. verdict ≡ judged (sources_of programs.now) cases.now 0 text.now) }
+    ensures { IfOk result (λ verdict. verdict ≡ verdict_on (sources_of programs.now) cases.now 0 text.now) }
 {
     let mut left = text;
     let mut todo = cases;

@@ -1,7 +1,7 @@
 -- The cases that are put together of plans, one more at a time.
-use Rattle.std.proofs.Common.{◌≡◌, ℕ, ◌+◌, ◌<◌, List, [], ◌∷◌, ◌++◌, length, map, sym, ap, ap₂, ◌∙◌, arith, append_assoc, slice_index_or}
+use Rattle.std.proofs.Common.{◌≡◌, ℕ, ◌+◌, List, [], ◌∷◌, ◌++◌, length, map, sym, ap, ◌∙◌, arith, append_assoc}
 use Rattle.std.proofs.lemmas.List.{map_push}
-use Rattle.std.specs.List.{All, remove}
+use Rattle.std.specs.List.{All}
 use Rattle.reg_compiler.specs.declared.built.Built.{Built}
 use Rattle.flow_core.specs.declared.case.Case.{Case}
 use Rattle.scene_members.specs.declared.plan.Plan.{Plan}
@@ -14,12 +14,6 @@ pub record ArePut (programs : List (ℕ × Built)) (plans : List Plan) (cases : 
   pub coded : All (IsCoded programs) cases
   pub flows : AreFlowsFrom 0 cases
   pub named : names ≡ case_names cases
-
--- the first item, and the rest after it is removed
-pub taken : {X : Type 0} (items : List X) (first : X) (rest : List X) → 0 < length items → first ≡ slice_index_or items 0 first → rest ≡ remove items 0
-    → items ≡ first ∷ rest
-taken [] first rest some is left = absurd (omega (arith, some))
-taken (item ∷ items) first rest some is left = ap₂ (λ a b. a ∷ b) (sym is) (sym left)
 
 flows_pushed : (flow : ℕ) (cases : List Case) (one : Case) → AreFlowsFrom flow cases → one.flow ≡ flow + length cases → AreFlowsFrom flow (cases ++ one ∷ [])
 flows_pushed flow [] one h is = (omega (arith, is), tt)

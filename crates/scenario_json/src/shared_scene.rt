@@ -2,7 +2,7 @@
 use crate::scenario::Scenario;
 use shared_link::SharedCase;
 
-/// What is run where flows share one link: the scenario, the link with one flow for each case in order, and the most
+/// What a run of flows over one link needs: the scenario, the link with one flow for each case in order, and the most
 /// rounds.
 #[derive(Drop)]
 pub struct SharedScene {

@@ -49,6 +49,7 @@ fn loss(
     loss_above(alloc, place, before, number as u32)
 }
 
+// A function of its own: its clause says it by the definition, which the proof of `losses_from` cites.
 fn last_of(numbers: &[u32]) -> Option<u32>
     ensures { result ≡ last_of numbers.now }
 {

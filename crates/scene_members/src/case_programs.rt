@@ -24,6 +24,7 @@ fn is_named(known: &Name, name: &[u8]) -> bool
     known.as_slice() == name
 }
 
+// A function of its own: a search followed by `?` isn't proved in one function.
 fn index_of(names: &[Name], name: &[u8]) -> Option<usize>
     ensures index { result ≡ position (λ known. bytes_eq known name.now) names.now }
     ensures within { ForSome result (λ i. i < length names.now) }

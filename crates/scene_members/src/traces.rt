@@ -53,6 +53,7 @@ pub fn traces_in(alloc: Global, whole: &Value) -> Result<Traces, MemberFault>
     traces_from(alloc, members)
 }
 
+// A function of its own: its proof turns a look-up of the map into one of the table that its caller's clauses name.
 /// The trace with this name.
 pub(crate) fn trace_named<'a>(traces: &'a Traces, name: &str) -> Option<&'a Trace>
     ensures { option_map (λ t. t.now) result ≡ trace_named name.now (table_of traces.now.entries) }

@@ -18,7 +18,7 @@ use Rattle.shared_link.specs.SharedRounds.{next_where, next_before, arrival_give
 
 -- ---- arrivals in flight
 
--- the lowest packet that isn't lost, where it arrives before a time
+-- the lowest packet that isn't lost, if it arrives before a time
 abbrev pub earlier : List ℕ → ℕ → ℕ → Next → Next
 earlier times delay end (arrives number sent_at chance marked) =
     cond (ltb (chance_time times chance + delay) end) (arrives number sent_at chance marked) all_lost
@@ -68,7 +68,7 @@ module _ (times : List ℕ) (trace : IsTrace times) (delay : ℕ) where
   ArriveFrom-staying from (packet ∷ rest) before =
       staying_from from packet.fate rest (staying rest) before.0 before.1 (ArriveFrom-staying (after_arrival times delay from packet.fate) rest)
 
-  -- where the first one arrives too late, all do
+  -- if the first one arrives too late, all do
   late : (a end : ℕ) → end ≤ a → ltb a end ≡ false
   late a end order = grind (arith, nat_tests)
 
@@ -171,9 +171,6 @@ module _ (times : List ℕ) (trace : IsTrace times) (delay past : ℕ) (packets 
 -- ---- an acknowledgement
 
 module _ (times : List ℕ) (trace : IsTrace times) (link : FlowLink) (past : ℕ) (packets : List Packet) (givens : List GivenAck) (settled : FlowSettled times link.delay_us past packets givens) where
-  flight_now : List Numbered
-  flight_now = in_flight packets givens
-
   pub matches : MatchNext (in_flight packets givens) 0 0 (next_arrival (in_flight packets givens))
   matches = match_next (in_flight packets givens) 0 0 settled.rises
 

@@ -42,7 +42,7 @@ each_set P flows at traffic within all here flow other inside =
           ]
     ]
 
--- what holds of each flow, where one is put after all others
+-- what holds of each flow, if one is put after all others
 pub each_push : (P : ℕ → FlowTraffic → Type 0) (flows : List FlowTraffic) (last : FlowTraffic) → ((flow : ℕ) (other : FlowTraffic) → flow < length flows → P flow (get_or flows flow other)) → P (length flows) last
     → (flow : ℕ) (other : FlowTraffic) → flow < length flows + 1 → P flow (get_or (flows ++ last ∷ []) flow other)
 each_push P flows last all here flow other inside =
@@ -130,7 +130,7 @@ module _ (case : SharedCase) (trace : IsTrace case.trace) (flows : List FlowTraf
 
 -- ---- acknowledgements
 
--- there is a flow's traffic where there are flows
+-- there is a flow's traffic if there are flows
 pub some_of : (flows : List FlowTraffic) (at : ℕ) → at < length flows → FlowTraffic
 some_of [] at within = absurd (omega (arith, within))
 some_of (flow ∷ rest) at within = flow

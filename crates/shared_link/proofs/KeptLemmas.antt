@@ -93,7 +93,7 @@ module _ (times : List ℕ) (delay : ℕ) where
   pub lands : (packets : List Packet) (l : Landing) → landing packets 0 ≡ l → LandsAs 0 0 packets l
   lands packets l same = subst (λ (x : Landing). LandsAs 0 0 packets x) same (lands_as 0 0 packets)
 
-  -- where all are lost, the first of these was sent first
+  -- if all are lost, the first of these was sent first
   since_by : (sent_at lost : ℕ) (fate : Fate) (rest : List Packet) → landing (record { sent_at = sent_at; fate = fate } ∷ rest) 0 ≡ AllLost lost
       → (with_packets times delay (record { sent_at = sent_at; fate = fate } ∷ rest) no_flight).since ≡ sent_at
   since_by sent_at lost Lost rest same = (subst (λ (x : Landing). LandsAs 1 sent_at rest x) same (lands_as 1 sent_at rest)).2 (omega arith)

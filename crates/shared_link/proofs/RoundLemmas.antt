@@ -1,6 +1,5 @@
 -- What holds of a shared link after every list of rounds.
 use Rattle.std.proofs.Common.{◌≡◌, ℕ, zero, suc, ◌+◌, ◌<◌, ◌≤◌, Bool, true, false, cond, eqb, ltb, leb, ◌||◌, ◌&&◌, List, [], ◌∷◌, length, refl, sym, subst, arith}
-use Rattle.std.proofs.lemmas.Bool.Decides.{nat_tests}
 use Rattle.ccp_base.specs.Limits.{most_flight}
 use Rattle.link_model.specs.Traces.{IsTrace}
 use Rattle.link_model.specs.Chances.{chance_time, first_chance}
@@ -61,9 +60,6 @@ module _ (times : List ℕ) (trace : IsTrace times) (link : FlowLink) (end past 
       (λ given after. settled-answers left (given ∷ givens) after))
 
 -- ---- the link
-
-same_is : (a : ℕ) → eqb a a ≡ true
-same_is a = grind (arith, nat_tests)
 
 past_grows : (b marked : Bool) (own past : ℕ) → past ≤ chance_past (cond b Lost (Served own marked)) past
 past_grows true marked own past = omega arith

@@ -132,7 +132,7 @@ with_arrival link arrival answered = record {
   };
 }
 
--- the timeout at this time, where all packets in flight are lost
+-- the timeout at this time, if all packets in flight are lost
 abbrev pub timeout_ack_to : FlowLink → ℕ → FlowStanding → Ack
 timeout_ack_to link now standing =
     timeout_ack_of link.mss now standing.past standing.flight.lost 0 standing.acked standing.sent

@@ -1,11 +1,8 @@
 -- The whole run, after its last round.
-use Rattle.std.specs.Prelude.{◌≡◌, ◌≤◌, ℕ, List, [], ◌∷◌, length, map}
+use Rattle.std.specs.Prelude.{◌≡◌, ◌≤◌, ℕ, List, [], ◌∷◌, map}
 use Rattle.std.proofs.Common.{arith, ap, sym, ◌∙◌, subst}
-use Rattle.std.proofs.lemmas.List.{length-map}
 use Rattle.flow_core.specs.declared.case.Case.{Case}
 use Rattle.flow_core.specs.Readings.{over_codes}
-use Rattle.scenario_json.specs.Cases.{plan_of}
-use Rattle.scenario_json.specs.SharedScenes.{flow_link_of}
 use Rattle.shared_link.specs.declared.round.Ask.{Ask}
 use Rattle.shared_link.specs.declared.round.Counts.{Counts}
 use Rattle.shared_link.specs.declared.shared_case.SharedCase.{SharedCase}
@@ -18,10 +15,6 @@ use Rattle.shared_run.specs.RoundFlows.{HaveAllAcks}
 use Rattle.shared_run.proofs.BookLemmas.{AreStill, still-closed}
 use Rattle.shared_run.proofs.CourseLemmas.{ends}
 use Rattle.shared_run.proofs.RoomyLemmas.{ends-whole}
-
--- as many flows as the link has
-pub as-many : (link : SharedCase) (cases : List Case) → link.flows ≡ map flow_link_of (map plan_of cases) → length link.flows ≡ length cases
-as-many link cases links = ap (λ xs. length xs) links ∙ length-map (map plan_of cases) flow_link_of ∙ length-map cases plan_of
 
 pub most-few : (cases : List Case) (most : ℕ) → most ≤ 10000 → round_limit cases most ≤ 10000
 most-few [] most few = omega arith

@@ -1,9 +1,9 @@
 -- The words of a slot, when words of a region are written.
-use Rattle.std.proofs.Common.{◌≡◌, ◌≢◌, ℕ, ◌+◌, ◌*◌, ◌<◌, ◌≤◌, List, length, get_or, set, take, drop, refl, sym, ap, ◌∙◌, inl, inr, arith, rules}
+use Rattle.std.proofs.Common.{◌≡◌, ◌≢◌, ℕ, ◌+◌, ◌*◌, ◌<◌, ◌≤◌, List, length, set, take, drop, refl, sym, ap, ◌∙◌, inl, inr, arith, rules}
 use Rattle.std.proofs.Math.Nat.{mul-le-mul_right}
 use Rattle.std.proofs.Math.Seq.{take-set-lt}
 use Rattle.std.proofs.lemmas.Bool.{cases_order}
-use Rattle.std.proofs.lemmas.List.{drop-set-add, drop-set-lt, take-set-le, drop-take, get_or-take, get_or-drop, drop_at, take_at, length-take-le, length-append, length-take, length-drop, same_lists, places}
+use Rattle.std.proofs.lemmas.List.{drop-set-add, drop-set-lt, take-set-le, drop-take, drop_at, take_at, length-take-le, length-append, length-take, length-drop, same_lists, places}
 use Rattle.std.proofs.lemmas.Slice.{take-put_mid_below, drop-put_mid}
 use borrow.Rule.Slice.PartMut.{put_mid}
 use Rattle.slot_pool.specs.Pool.{with_run}
@@ -15,11 +15,6 @@ slots_in_order words a b h = omega (arith, mul-le-mul_right words (suc_le a b h)
   where
     suc_le : (a b : ℕ) → a < b → a + 1 ≤ b
     suc_le a b h = omega arith
-
--- the first word of a slot
-pub first_word : (region : List ℕ) (words slot : ℕ) → 0 < words → get_or (slot_words_in region words slot) 0 0 ≡ get_or region (slot * words) 0
-first_word region words slot h =
-    get_or-take words (drop (slot * words) region) 0 0 h ∙ get_or-drop (slot * words) region 0 0 ∙ ap (λ i. get_or region i 0) (omega arith)
 
 -- a slot has `words` words
 pub length-words_in : (region : List ℕ) (words slot : ℕ) → slot * words + words ≤ length region → length (slot_words_in region words slot) ≡ words

@@ -1,9 +1,9 @@
 -- A pool of which its holder keeps one slot aside and hands out the others.
-use Rattle.std.proofs.Common.{◌≡◌, ◌≢◌, ℕ, ◌-◌, List, Option, None, is_some, cond, option_map, slice_set, sym, ap, ◌∙◌, inl, inr, arith}
+use Rattle.std.proofs.Common.{◌≡◌, ◌≢◌, ℕ, ◌-◌, List, Option, None, is_some, cond, sym, ap, ◌∙◌, inl, inr, arith}
 use Rattle.std.proofs.lemmas.Bool.{cases_eq, true≢false}
 use Rattle.std.specs.Cmp.{nat_cmp_total}
 use Rattle.std.specs.FinMap as map
-use Rattle.slot_pool.specs.Pool.{PoolState, words_at, IsOut, free_of, words_with_one, ChangesSlot}
+use Rattle.slot_pool.specs.Pool.{PoolState, words_at, IsOut, free_of, ChangesSlot}
 use Rattle.slot_pool.specs.PoolLaws.{get-remove_same, get-remove_other, same_out, some_len}
 
 -- the pool without a slot that is out
@@ -16,9 +16,6 @@ module _ (p : PoolState) (own : ℕ) where
 
   pub words_at-without : (slot : ℕ) → slot ≢ own → words_at (without p own) slot ≡ words_at p slot
   words_at-without slot apart = get-remove_other p.out own slot apart
-
-  pub with_word-without : (slot at word : ℕ) → slot ≢ own → words_with_one (without p own) slot at word ≡ words_with_one p slot at word
-  with_word-without slot at word apart = ap (option_map (λ words. slice_set words at word)) (words_at-without slot apart)
 
   -- what is out there is another slot, and is out in the pool
   pub without_apart : (slot : ℕ) → IsOut (without p own) slot → slot ≢ own

@@ -8,10 +8,6 @@ use Rattle.worker_desk.specs.Attending.{Errand, errand, taking, settling, tendin
 use Rattle.std.proofs.lemmas.Bool.Decides.{nat_tests}
 use Rattle.worker_desk.proofs.ServingLemmas.{Logs-append}
 
--- no more numbers come
-pub no-more : (worker flows : ℕ) (old new : KnownLog) → Logs old new (Received None ∷ []) → Attends worker flows old new
-no-more worker flows old new logs = record { errands = []; logs = logs }
-
 -- an errand, and then the others
 errand-then : (worker flows : ℕ) (e : Errand) (old middle end : KnownLog)
     → Logs old middle (errand worker flows e) → Attends worker flows middle end → Attends worker flows old end

@@ -75,10 +75,6 @@ fn run_live<R: Threads + Wait + Sync, G: Gate + Sync>(
 {
     let table = FlowTable::new(alloc, scene.cases)?;
     let books = live(rt, alloc, table, datapaths, agents, gate)?;
-    Ok(ModeOutput {
-        text: books_text(alloc, wire, &books, &scene.programs)?,
-        books,
-        programs: scene.programs,
-        ran: 0,
-    })
+    let text = books_text(alloc, wire, &books, &scene.programs)?;
+    Ok(ModeOutput::with_books(text, books, scene.programs))
 }

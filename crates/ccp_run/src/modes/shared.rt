@@ -55,6 +55,7 @@ fn shared_output<R: Threads + Wait + Sync, G: Gate + Sync>(
     Ok(run_together(rt, alloc, workers, scene, gate)?)
 }
 
+// A function of its own: the lemmas about the link and a scenario's fault are searched with here, not in the caller.
 /// The scenario of flows on one link that the bytes stand for.
 #[tactic(auto, using(crate::proofs::SharedLemmas::link_within, crate::proofs::ScenarioInputs::scene_stops))]
 fn read_shared_scene(alloc: Global, bytes: &[u8]) -> Result<SharedScene, Stop>
@@ -122,7 +123,7 @@ fn copy_names(alloc: Global, names: &Names) -> Result<Names, NoMemory>
     Ok(Names::from_vec(names.as_slice().to_vec(alloc)?))
 }
 
-/// Puts the line of a link's packets at the end of a text.
+/// Appends the line of a link's packets to a text.
 fn put_line(alloc: Global, text: &mut Bytes, counts: &Counts) -> Result<(), NoMemory>
     ensures { OnOk result (text.new ≡ text.old ++ link_line counts.now) }
 {

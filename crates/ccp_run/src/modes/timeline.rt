@@ -69,10 +69,6 @@ fn run_timeline<R: Threads + Wait + Sync, G: Gate + Sync>(
     ensures tells { IfOk result (TellsTimeline wire scene.programs scene.cases) }
 {
     let books = books(rt, alloc, scene.cases, workers, gate)?;
-    Ok(ModeOutput {
-        text: books_text(alloc, wire, &books, &scene.programs)?,
-        books,
-        programs: scene.programs,
-        ran: 0,
-    })
+    let text = books_text(alloc, wire, &books, &scene.programs)?;
+    Ok(ModeOutput::with_books(text, books, scene.programs))
 }

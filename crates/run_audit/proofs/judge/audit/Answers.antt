@@ -4,7 +4,7 @@ use Rattle.reg_compiler.specs.Sources.{sources_of}
 use Rattle.run_audit.specs.declared.verdict.Verdict.{Verdict}
 use Rattle.run_audit.specs.declared.verdict.Verdict.TheVariants.{Yes, No}
 use Rattle.run_audit.specs.Audit.{IsVerdict}
-use Rattle.run_audit.specs.PartLeft.{judged}
+use Rattle.run_audit.specs.PartLeft.{verdict_on}
 use Rattle.run_audit.proofs.NameLemmas.{names_plain}
 use Rattle.run_audit.proofs.VerdictLemmas.{verdict_is}
 use Rattle.run_audit.proofs.WordsLemmas.{yes_only, no_only}
@@ -17,9 +17,9 @@ if_ok P Q (Err e) more is = is
 pub returns-clause-is : goal.returns-clause-is
 returns-clause-is c =
     let same : c.as_slice.result.now ≡ c.args.scene.now.cases = search rules in
-    if_ok (λ verdict. verdict ≡ judged (sources_of c.args.scene.now.programs) c.as_slice.result.now 0 c.args.text.now) (IsVerdict (sources_of c.args.scene.now.programs) c.args.scene.now.cases c.args.text.now) c.judge.result
+    if_ok (λ verdict. verdict ≡ verdict_on (sources_of c.args.scene.now.programs) c.as_slice.result.now 0 c.args.text.now) (IsVerdict (sources_of c.args.scene.now.programs) c.args.scene.now.cases c.args.text.now) c.judge.result
     (λ verdict is. subst (λ (v : Verdict). IsVerdict (sources_of c.args.scene.now.programs) c.args.scene.now.cases c.args.text.now v)
-    (sym (is ∙ ap (λ cases. judged (sources_of c.args.scene.now.programs) cases 0 c.args.text.now) same))
+    (sym (is ∙ ap (λ cases. verdict_on (sources_of c.args.scene.now.programs) cases 0 c.args.text.now) same))
     (verdict_is (sources_of c.args.scene.now.programs) (names_plain c.args.scene.now.programs) c.args.scene.now.cases c.args.text.now))
     c.judge.ensures
 

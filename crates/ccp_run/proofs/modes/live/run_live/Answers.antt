@@ -1,5 +1,6 @@
-use Rattle.std.proofs.Common.{◌≡◌, rules, refl}
-use Rattle.ccp_run.specs.Live.{book_cases, books_written}
+use Rattle.std.proofs.Common.{◌≡◌, ◌∙◌, rules, ap, sym, subst}
+use Rattle.std.specs.List.{All}
+use Rattle.ccp_run.specs.Live.{IsRightBook, book_cases, books_written}
 use Rattle.ccp_run.proofs.LiveLemmas.{books_of}
 use Rattle.ccp_run.proofs.modes.live.run_live.Goals as goal
 
@@ -13,10 +14,12 @@ returns-clause-tells g c =
     let scene = c.args.scene in
     let books = c.in_ok-books.books in
     let cases : book_cases books ≡ scene.cases = search rules in
-    let text : c.in_ok-books_text.field-0 ≡ books_written c.args.wire scene.programs books = search rules in
+    let made = c.with_books.ensures in
+    let text : c.in_ok-text.text ≡ books_written c.args.wire scene.programs books = search rules in
     record {
-      books = cases;
-      right = books_of scene.programs c.requires.numbered scene.cases c.in_ok-table.table books c.requires.coded c.in_ok-table.ensures c.in_ok-books.ensures;
-      written = text;
-      idle = refl;
+      books = ap book_cases made.books ∙ cases;
+      right = subst (All (IsRightBook scene.programs)) (sym made.books)
+          (books_of scene.programs c.requires.numbered scene.cases c.in_ok-table.table books c.requires.coded c.in_ok-table.ensures c.in_ok-books.ensures);
+      written = made.text ∙ text ∙ ap (books_written c.args.wire scene.programs) (sym made.books);
+      idle = made.ran;
     }

@@ -1,5 +1,5 @@
 use Rattle.flow_core.proofs.BareOpeningLemmas.{summary-open, is-open}
-use Rattle.flow_core.proofs.bare.BareParts.opened.Goals as goal
+use Rattle.flow_core.proofs.bare.BareParts.parts_at_opening.Goals as goal
 
 pub returns-clause-parts : goal.returns-clause-parts
 returns-clause-parts c = is-open c.args.case c.args.first c.requires
