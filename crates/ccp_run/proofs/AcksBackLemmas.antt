@@ -22,8 +22,8 @@ use Rattle.fold_run.specs.AckLine.{AckLine, nothing, given, refused, no_values, 
 use Rattle.fold_run.specs.Acknowledgements.{with_line, with_lines}
 use Rattle.fold_run.proofs.NameLemmas.{IsNamed, AreNamed, is_name_byte, all_named, first_named, rest_named}
 use Rattle.campaign_report.specs.AcksText.{now_number, is_shown, gap, items_text, ack_line, ack_lines}
-use Rattle.run_audit.proofs.NumeralLemmas.{numeral_of-decimal}
-use Rattle.run_audit.proofs.Pieces.{IsPlain, plain-append, plain-of, ended-part, decimal-digits}
+use Rattle.ccp_base.proofs.DecimalLemmas.{decimal-digits, numeral_of-decimal}
+use Rattle.run_audit.proofs.Pieces.{IsPlain, plain-append, plain-of, ended-part}
 use Rattle.ccp_run.specs.TextLaws.{IsOf64Bits, ReadsAcksBack}
 
 -- ---- bytes of a word

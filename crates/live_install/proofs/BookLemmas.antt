@@ -1,26 +1,21 @@
 -- The text of a book that shows the state after its word is its flow's part of the rollout text.
-use Rattle.std.specs.Prelude.{◌≡◌, ℕ, suc, ◌-◌, ◌==◌, ◌||◌, Option, Some, None, option_map, List, [], ◌∷◌, ◌++◌, length, map, refl}
+use Rattle.std.specs.Prelude.{◌≡◌, ℕ, suc, Option, Some, None, option_map, List, [], ◌∷◌, ◌++◌, length, map, refl}
 use Rattle.std.specs.List.{All}
-use Rattle.std.proofs.Common.{ap, sym, ◌∙◌, arith}
-use Rattle.std.proofs.lemmas.List.{length-map}
+use Rattle.std.proofs.Common.{ap, arith}
 use Rattle.ccp_base.specs.declared.exchange.Notice.{Notice}
 use Rattle.ccp_base.specs.declared.place.Place.{Place}
 use Rattle.ccp_base.specs.Text.{◌⧺◌}
-use Rattle.flow_core.specs.declared.book.EpochLine.{EpochLine}
-use Rattle.flow_core.specs.Books.{epoch_line}
 use Rattle.flow_core.specs.World.{Failure}
 use Rattle.live_install.specs.declared.book.OpenBook.{OpenBook}
 use Rattle.live_install.specs.BuiltTexts.{EntryState}
 use Rattle.live_install.specs.Entries.{step_place}
 use Rattle.live_install.specs.OpenBooks.{failure_at, seen_of, seen_as}
-use Rattle.live_install.specs.OpenWorld.{OpenWorld, eras_of, track_now}
+use Rattle.live_install.specs.OpenWorld.{OpenWorld, track_now}
 use Rattle.live_install.specs.OpenWords.{install_world}
 use Rattle.live_install.specs.RolloutText.{OpenAccount, account_of, account_text, end_of, fault_lines, open_part, rollout_text}
-use Rattle.report_lines.specs.EndLine.{is_faulted}
 use Rattle.report_lines.specs.FaultLine.{placed_line}
 use Rattle.live_install.specs.BookText.{account_in, book_text, books_text, end_in, failures_in, failure_if_placed}
 use Rattle.live_install.specs.WholeBooks.{IsRightBook, flows_of}
-use Rattle.live_install.proofs.StopLemmas.{fails_in, stopped-where}
 
 -- ---- faults and their places
 
@@ -30,11 +25,11 @@ placed-line notice None rest = refl
 placed-line notice (Some place) rest = refl
 
 seen-placed : (notice : Notice) (place : Option Place) (failure : Failure Place) → option_map (failure_at notice) place ≡ Some failure
-    → (failure_if_placed notice place ≡ failure ∷ []) × (notice.epoch ≡ failure.epoch)
+    → failure_if_placed notice place ≡ failure ∷ []
 seen-placed notice None failure is = absurd (let wrong : None ≡ Some failure = is in (cc))
 seen-placed notice (Some place) failure is =
     let same : failure_at notice place ≡ failure = cc in
-    (ap (λ (f : Failure Place). f ∷ []) same, ap (λ (f : Failure Place). f.epoch) same)
+    ap (λ (f : Failure Place). f ∷ []) same
 
 module _ (entries : List EntryState) (flow : ℕ) where
   pub seen-failures : (faults : List Notice) (failures : List (Failure Place)) → map (seen_of entries) faults ≡ map (seen_as flow) failures
@@ -46,18 +41,7 @@ module _ (entries : List EntryState) (flow : ℕ) where
       let heads : seen_of entries notice ≡ seen_as flow failure = cc in
       let tails : map (seen_of entries) rest ≡ map (seen_as flow) more = cc in
       let here = seen-placed notice (step_place entries notice.program notice.index) failure (ap (λ (s : ℕ × Option (Failure Place)). s.1) heads) in
-      λ i. here.0 i ++ seen-failures rest more tails i
-
-  pub seen-faulted : (number : ℕ) (faults : List Notice) (failures : List (Failure Place)) → map (seen_of entries) faults ≡ map (seen_as flow) failures
-      → is_faulted number faults ≡ fails_in number failures
-  seen-faulted number [] [] same = refl
-  seen-faulted number [] (failure ∷ more) same = absurd (let wrong : [] ≡ seen_as flow failure ∷ map (seen_as flow) more = same in (cc))
-  seen-faulted number (notice ∷ rest) [] same = absurd (let wrong : seen_of entries notice ∷ map (seen_of entries) rest ≡ [] = same in (cc))
-  seen-faulted number (notice ∷ rest) (failure ∷ more) same =
-      let heads : seen_of entries notice ≡ seen_as flow failure = cc in
-      let tails : map (seen_of entries) rest ≡ map (seen_as flow) more = cc in
-      let here = seen-placed notice (step_place entries notice.program notice.index) failure (ap (λ (s : ℕ × Option (Failure Place)). s.1) heads) in
-      λ i. (here.1 i == number) || seen-faulted number rest more tails i
+      λ i. here i ++ seen-failures rest more tails i
 
 -- ---- a book
 
@@ -65,19 +49,11 @@ module _ (book : OpenBook) (told : IsRightBook book) where
   abbrev w : OpenWorld
   w = install_world book.case book.word
 
-  stopped : is_faulted (length book.epochs - 1) book.faults ≡ (track_now book.case w).is_stopped
-  stopped =
-      let count : length book.epochs - 1 ≡ length (eras_of w) - 1 =
-      ap (λ (es : List EpochLine). length es - 1) told.epochs ∙ ap (λ (n : ℕ). n - 1) (length-map (eras_of w) epoch_line) in
-      ap (λ (n : ℕ). is_faulted n book.faults) count
-      ∙ (seen-faulted book.entries book.case.flow (length (eras_of w) - 1) book.faults w.faults told.faults
-      ∙ sym (stopped-where book.case book.word))
-
   ends : end_in book ≡ end_of (length w.acks) (track_now book.case w)
   ends = λ i. record {
     acks = told.acks i;
     first = told.first i;
-    stopped = stopped i;
+    stopped = told.stopped i;
     cwnd = (told.registers i).cwnd;
     rate = (told.registers i).rate;
     fields = (told.registers i).fields;

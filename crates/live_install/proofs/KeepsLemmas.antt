@@ -26,6 +26,7 @@ use Rattle.flow_core.specs.ReservedLists.{ReservedState}
 use Rattle.flow_core.specs.World.{Failure, with_event, reporter, failures_met}
 use Rattle.flow_core.specs.Books.{epoch_line}
 use Rattle.flow_core.proofs.SimulatedEpochs.{IsEnvOf-after, declared-simulated}
+use Rattle.flow_core.proofs.SummaryLemmas.{time-append}
 use Rattle.portus_build.specs.TextWalk.{program_of}
 use Rattle.live_install.specs.declared.account.Account.{Account}
 use Rattle.live_install.specs.declared.entry.Entry.{Entry}
@@ -37,7 +38,7 @@ use Rattle.live_install.specs.BuiltTexts.{form_or_refusal, built_of}
 use Rattle.live_install.specs.Entries.{installed_of, built_entry, built_at, entry_place}
 use Rattle.live_install.specs.OpenBooks.{Seen, failure_at, seen_of, seen_as}
 use Rattle.live_install.specs.States.{first_in, epochs_in, epoch_after, kept_track, next_from, ArePassed, Runs, RunsEpoch, FitsBuilt, FitsAt, Keeps}
-use Rattle.live_install.proofs.ListLemmas.{slice_get-front, time-push}
+use Rattle.live_install.proofs.ListLemmas.{slice_get-front}
 use Rattle.live_install.proofs.NextLemmas.{was_started-same, passed-more, passed-push, next-entry}
 
 -- a track with one acknowledgement more counted
@@ -65,7 +66,7 @@ module _ (s : State) (base : OpenWorld) (link : LinkState) (ack : Ack) (word : R
         reports = keeps.reports;
         faults = keeps.faults;
         acks = ap (λ (n : ℕ). n + 1) keeps.acks ∙ sym more;
-        time = sym (time-push base.acks ack);
+        time = sym (time-append base.acks ack);
         track = ap counted keeps.track ∙ (λ i. bare s.case (sym more i));
         runs = keeps.runs;
         passed = keeps.passed;
@@ -123,7 +124,7 @@ module _ (s : State) (base : OpenWorld) (link : LinkState) (ack : Ack) (word : R
               ∙ (λ i. keeps.faults i ++ map (seen_as s.case.flow) (failures_met (sym runs.program i) (epoch-number i) (track-same i).count ack (met-same i)))
               ∙ sym (map-append (seen_as s.case.flow) base.faults _);
           acks = ap (λ (n : ℕ). n + 1) keeps.acks ∙ sym more;
-          time = sym (time-push base.acks ack);
+          time = sym (time-append base.acks ack);
           track =
               (λ i. record { env = heard.env i; is_stopped = heard.stopping i; first = heard.first i; count = s.acks + 1 })
               ∙ (λ i. after_outcome (met-same i) (track-same i)) ∙ sym track-next;

@@ -8,7 +8,6 @@ pub mod RunLemmas
 pub mod KeepsLemmas
 pub mod OpenLemmas
 pub mod OpeningLemmas
-pub mod StopLemmas
 pub mod BookLemmas
 pub mod TurnLemmas
 pub mod CountLemmas

@@ -1,8 +1,6 @@
 -- Lists that go on.
 use Rattle.std.specs.Prelude.{◌≡◌, ℕ, ◌+◌, ◌<◌, zero, suc, List, [], ◌∷◌, ◌++◌, length, slice_get, refl}
 use Rattle.std.proofs.Common.{◌∙◌, arith}
-use Rattle.ccp_base.specs.declared.ack.Ack.{Ack}
-use Rattle.flow_core.specs.World.{time_of}
 use Rattle.live_install.specs.declared.entry.Entry.{Entry}
 use Rattle.live_install.specs.Entries.{AreStepsFrom}
 
@@ -11,12 +9,6 @@ pub slice_get-front : {X : Type 0} (xs more : List X) (i : ℕ) → i < length x
 slice_get-front [] more i within = absurd (omega (arith, within))
 slice_get-front (x ∷ xs) more zero within = refl
 slice_get-front (x ∷ xs) more (suc i) within = slice_get-front xs more i (omega (arith, within))
-
--- the time is that of the last acknowledgement
-pub time-push : (acks : List Ack) (ack : Ack) → time_of (acks ++ ack ∷ []) ≡ ack.now
-time-push [] ack = refl
-time-push (first ∷ []) ack = refl
-time-push (first ∷ next ∷ rest) ack = time-push (next ∷ rest) ack
 
 pub steps-push : (step : ℕ) (entries : List Entry) (entry : Entry) → AreStepsFrom step entries → entry.step ≡ step + length entries
     → AreStepsFrom step (entries ++ entry ∷ [])

@@ -5,6 +5,7 @@ use Rattle.std.proofs.lemmas.List.{append_cancel_left}
 use Rattle.std.proofs.lemmas.Fmt.{decimal_injective}
 use Rattle.ccp_base.specs.declared.exchange.Report.{Report}
 use Rattle.ccp_base.specs.declared.place.Place.{Place}
+use Rattle.ccp_base.proofs.DecimalLemmas.{joined, joined-append}
 use Rattle.portus_build.specs.RefusalText.{refusal_text}
 use Rattle.flow_core.specs.World.{Era, Failure}
 use Rattle.flow_core.specs.declared.book.EpochLine.{EpochLine}
@@ -16,15 +17,6 @@ use Rattle.live_install.proofs.DigitLemmas.{same-front}
 use Rattle.live_install.proofs.WorldCountLemmas.{starts, starts_of}
 
 -- ---- pieces
-
--- pieces, and what follows them
-abbrev joined : List (List ℕ) → List ℕ → List ℕ
-joined [] rest = rest
-joined (piece ∷ pieces) rest = piece ++ joined pieces rest
-
-joined-append : (pieces : List (List ℕ)) (rest more : List ℕ) → joined pieces rest ++ more ≡ joined pieces (rest ++ more)
-joined-append [] rest more = refl
-joined-append (piece ∷ pieces) rest more = append_assoc piece (joined pieces rest) more ∙ ap (λ x. piece ++ x) (joined-append pieces rest more)
 
 -- what follows equal pieces
 followed : (pieces : List (List ℕ)) (x y : List ℕ) → joined pieces x ≡ joined pieces y → x ≡ y

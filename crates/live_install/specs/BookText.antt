@@ -1,10 +1,9 @@
 -- The text of books: the account of each, with the places of its entries.
-use Rattle.std.specs.Prelude.{ℕ, ◌-◌, Option, Some, None, List, [], ◌∷◌, ◌++◌, length, map}
+use Rattle.std.specs.Prelude.{ℕ, Option, Some, None, List, [], ◌∷◌, ◌++◌, map}
 use Rattle.ccp_base.specs.declared.exchange.Notice.{Notice}
 use Rattle.ccp_base.specs.declared.place.Place.{Place}
 use Rattle.ccp_base.specs.Text.{◌⧺◌}
 use Rattle.report_lines.specs.declared.end_line.End.{End}
-use Rattle.report_lines.specs.EndLine.{is_faulted}
 use Rattle.flow_core.specs.World.{Failure}
 use Rattle.live_install.specs.declared.book.OpenBook.{OpenBook}
 use Rattle.live_install.specs.BuiltTexts.{EntryState}
@@ -23,12 +22,12 @@ failures_in entries [] = []
 failures_in entries (notice ∷ rest) =
     failure_if_placed notice (step_place entries notice.program notice.index) ++ failures_in entries rest
 
--- how the flow stands; a fault stops its epoch
+-- how the flow stands
 abbrev pub end_in : OpenBook → End
 end_in book = record {
   acks = book.acks;
   first = book.first;
-  stopped = is_faulted (length book.epochs - 1) book.faults;
+  stopped = book.machine.is_stopped;
   cwnd = book.machine.kept.cwnd;
   rate = book.machine.kept.rate;
   fields = book.machine.kept.reports;

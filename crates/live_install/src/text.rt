@@ -15,7 +15,7 @@ use crate::entry_lines::{put_changes, put_entries};
 use ccp_base::{Bytes, NoMemory, Notice, Place, Report};
 use flow_core::EpochLine;
 use portus_core::Decl;
-use report_lines::{End, is_faulted, put_end, put_fault, put_flow_head, put_report};
+use report_lines::{End, put_end, put_fault, put_flow_head, put_report};
 use std::alloc::Global;
 
 /// The text of a rollout: of each book its flow, its entries, its changes, its faults with their places, its reports,
@@ -158,14 +158,14 @@ fn last_fields<'a>(entries: &'a [Entry], epochs: &[EpochLine]) -> &'a [Decl]
     }
 }
 
-/// How a book's flow stands at the end. A fault stops its epoch, so the last epoch is stopped if a fault is of it.
+/// How a book's flow stands at the end.
 fn end_in(book: &OpenBook) -> End
     ensures { result ≡ end_in book.now }
 {
     End {
         acks: u64::from(book.acks),
         first: book.first,
-        stopped: is_faulted(book.epochs.len().saturating_sub(1), book.faults.as_slice()),
+        stopped: book.machine.is_stopped(),
         cwnd: book.machine.cwnd(),
         rate: book.machine.rate(),
         fields: book.machine.fields(),

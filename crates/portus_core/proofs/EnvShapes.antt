@@ -40,11 +40,11 @@ IsEnvOf-with_values form (pair ∷ rest) env shape =
     IsEnvOf-with_values form rest (with_value pair.0 pair.1 env) (IsEnvOf-with_value form pair.0 pair.1 env shape)
 
 -- what each Ok of the next step keeps, each Ok of both keeps
-IfOk-then_do : {A B F : Type 0} (result : Result A F) (next : A → Result B F) (P : B → Type 0) → ((a : A) → IfOk (next a) P) → IfOk (then_do result next) P
+pub IfOk-then_do : {A B F : Type 0} (result : Result A F) (next : A → Result B F) (P : B → Type 0) → ((a : A) → IfOk (next a) P) → IfOk (then_do result next) P
 IfOk-then_do (Ok a) next P keeps = keeps a
 IfOk-then_do (Err fault) next P keeps = tt
 
-IfOk-then_do_from : {A B F : Type 0} (result : Result A F) (next : A → Result B F) (Q : A → Type 0) (P : B → Type 0) → IfOk result Q → ((a : A) → Q a → IfOk (next a) P) → IfOk (then_do result next) P
+pub IfOk-then_do_from : {A B F : Type 0} (result : Result A F) (next : A → Result B F) (Q : A → Type 0) (P : B → Type 0) → IfOk result Q → ((a : A) → Q a → IfOk (next a) P) → IfOk (then_do result next) P
 IfOk-then_do_from (Ok a) next Q P holds keeps = keeps a holds
 IfOk-then_do_from (Err fault) next Q P holds keeps = tt
 

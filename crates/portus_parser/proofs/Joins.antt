@@ -38,7 +38,7 @@ is_lexeme-append text others back h k = elim (or_cases (is_parenthesis text) (is
       or_right (is_parenthesis text) (is_atom text && ends_atom (others ++ back)) (and_from (is_atom text) (ends_atom (others ++ back)) parts.0 (ends_atom-append others back parts.1 k))
 ]
 
-moved : (at there : Place) (i j : ℕ) (bytes : List ℕ) (lexemes : List Lexeme) → at ≡ there → i ≡ j → AreLexemes false at i bytes lexemes → AreLexemes false there j bytes lexemes
+pub moved : (at there : Place) (i j : ℕ) (bytes : List ℕ) (lexemes : List Lexeme) → at ≡ there → i ≡ j → AreLexemes false at i bytes lexemes → AreLexemes false there j bytes lexemes
 moved at there i j bytes lexemes e f h =
     subst (λ (n : ℕ). AreLexemes false there n bytes lexemes) f (subst (λ (p : Place). AreLexemes false p i bytes lexemes) e h)
 

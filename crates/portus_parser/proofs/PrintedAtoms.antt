@@ -1,49 +1,24 @@
 -- The digits of a number spell it again, and a word spells itself.
-use Rattle.std.specs.Prelude.{◌≡◌, ℕ, ◌^◌, ◌<◌, Bool, true, false, nat_le, Option, Some, None, Ok, Err, if◌then◌else◌, List, [], ◌∷◌, length}
+use Rattle.std.specs.Prelude.{◌≡◌, ℕ, ◌^◌, ◌<◌, Bool, true, false, Option, Some, None, Ok, Err, if◌then◌else◌, List, [], ◌∷◌, length}
 use Rattle.std.specs.List.{list_all}
 use Rattle.std.specs.Fmt.{decimal}
-use Rattle.std.specs.Int.{IsInRange}
-use Rattle.std.proofs.Common.{arith, refl, ap, ◌∙◌, subst}
-use Rattle.std.proofs.lemmas.Bool.{and_parts, and_from, lt-ltb, leb-true, le-leb}
+use Rattle.std.proofs.Common.{arith, refl, ap, subst}
+use Rattle.std.proofs.lemmas.Bool.{and_parts, and_from}
 use Rattle.std.proofs.lemmas.Bool.Decides.{nat_tests}
-use Rattle.std.proofs.lemmas.Str.Parse.{IsNumeralModel, IsDigitsTest, FoldsDigits, numerals_by_fold}
-use Rattle.std.proofs.lemmas.Fmt.{digits_decimal, digits_value-decimal, decimal_nonempty}
+use Rattle.std.proofs.lemmas.Fmt.{decimal_nonempty}
 use Rattle.ccp_base.specs.declared.place.Place.{Place}
 use Rattle.portus_core.specs.Trees.{number, word}
 use Rattle.portus_lexer.specs.Bytes.{is_atom_byte}
 use Rattle.portus_lexer.specs.Lexemes.{is_atom, ends_atom}
 use Rattle.portus_parser.specs.declared.fault.ParseFault.TheVariants.{BadName}
 use Rattle.ccp_base.specs.Numerals.{is_digit, numeral_of}
+use Rattle.ccp_base.proofs.DecimalLemmas.{decimal-digits, numeral_of-decimal}
 use Rattle.portus_parser.specs.Atoms.{begins_with_digit, numeral_node, is_word, atom_of}
 use Rattle.portus_parser.specs.Spelling.{SpellsAtom}
-use Rattle.portus_parser.proofs.Numerals.{decimal_from, numeral_from, numeral_of-digits, numeral_fits}
+use Rattle.portus_parser.proofs.Numerals.{numeral_fits}
 
 abbrev AreDigits : List ℕ → Type 0
 AreDigits ds = list_all is_digit ds ≡ true
-
-digit_in_range : (b : ℕ) → is_digit b ≡ true → IsInRange 48 57 b
-digit_in_range b h = let parts = and_parts (nat_le 48 b) (nat_le b 57) h in (leb-true 48 b parts.0, leb-true b 57 parts.1)
-
-tells_digits : IsDigitsTest AreDigits
-tells_digits = record {
-  empty = refl;
-  parts = λ c cs h. let parts = and_parts (is_digit c) (list_all is_digit cs) h in (digit_in_range c parts.0, parts.1);
-  more = λ c cs h k. and_from (is_digit c) (list_all is_digit cs) (and_from (nat_le 48 c) (nat_le c 57) (le-leb 48 c h.0) (le-leb c 57 h.1)) k;
-}
-
-folds_digits : FoldsDigits decimal_from
-folds_digits = record { empty = λ n. refl; more = λ n c cs h. refl }
-
-digits_model : IsNumeralModel AreDigits (decimal_from 0)
-digits_model = numerals_by_fold AreDigits tells_digits decimal_from folds_digits
-
--- the decimal digits of a number below 2^64 are its numeral
-numeral_of-decimal : (value : ℕ) → value < 2 ^ 64 → numeral_of (decimal value) ≡ Some value
-numeral_of-decimal value fits =
-    let digits = digits_decimal digits_model value fits in
-    let same = digits_value-decimal digits_model value fits in
-    let at_once : numeral_from 0 (decimal value) ≡ Some value = rw (digits, same, lt-ltb value (2 ^ 64) fits) refl in
-    numeral_of-digits (decimal value) (decimal_nonempty value fits) ∙ at_once
 
 digit_is_atom_byte : (b : ℕ) → is_digit b ≡ true → is_atom_byte b ≡ true
 digit_is_atom_byte b h = grind (arith, nat_tests)
@@ -88,7 +63,7 @@ word_itself false false at place text name value h = absurd (cc)
 pub spells_number : (depth : ℕ) (at there : Place) (part others back : List ℕ) (place : Place) (value : ℕ) → SpellsAtom depth at part others (number place value) → ends_atom back ≡ true → SpellsAtom depth there (decimal value) back (number there value)
 spells_number depth at there part others back place value h ends =
     let fits = value_fits at place part value h.spelled in
-    let digits = digits_decimal digits_model value fits in
+    let digits = decimal-digits value in
     let some = decimal_nonempty value fits in
     record {
       inside = h.inside;

@@ -10,7 +10,7 @@ use Rattle.portus_lexer.proofs.Scans.{place_after-append}
 use Rattle.portus_parser.specs.declared.fault.ParseFault.{ParseFault}
 use Rattle.portus_parser.specs.Spelling.{Split, SpellsAtom, IsListAround, SpellsParts}
 use Rattle.portus_parser.specs.Readings.{Opened, OpenLists, read_lexemes}
-use Rattle.portus_parser.proofs.Joins.{AreLexemes-append}
+use Rattle.portus_parser.proofs.Joins.{AreLexemes-append, moved}
 use Rattle.portus_parser.proofs.Turns.{turn-open, turn-atom}
 
 -- the nodes of a list in order
@@ -61,10 +61,6 @@ lexed_atom depth at i bytes node rest split spells after =
           ∙ after.reads opens (parts ++ node ∷ []) others e
           ∙ ap (λ (ps : List Node). read_lexemes (state opens ps) others) (append_assoc parts (node ∷ []) (listed rest));
     }
-
-moved : (at there : Place) (i j : ℕ) (bytes : List ℕ) (lexemes : List Lexeme) → at ≡ there → i ≡ j → AreLexemes false at i bytes lexemes → AreLexemes false there j bytes lexemes
-moved at there i j bytes lexemes e f h =
-    subst (λ (n : ℕ). AreLexemes false there n bytes lexemes) f (subst (λ (p : Place). AreLexemes false p i bytes lexemes) e h)
 
 -- a list's bytes with what follows: its own lexemes between two parentheses
 divided_list : (at : Place) (i : ℕ) (bytes gap inner others : List ℕ) (own after : List Lexeme) → bytes ≡ gap ++ ((40 ∷ (inner ++ 41 ∷ [])) ++ others) → is_blank false gap ≡ true → AreLexemes false (place_past_byte (place_after at gap) 40) ((i + length gap) + 1) inner own → AreLexemes false (place_after (place_after at gap) (40 ∷ (inner ++ 41 ∷ []))) ((i + length gap) + length (40 ∷ (inner ++ 41 ∷ []))) others after → AreLexemes false at i bytes (record { place = place_after at gap; start = i + length gap; text = 40 ∷ [] } ∷ (own ++ record { place = place_after (place_past_byte (place_after at gap) 40) inner; start = ((i + length gap) + 1) + length inner; text = 41 ∷ [] } ∷ after))

@@ -27,21 +27,13 @@ use Rattle.reg_compiler.proofs.Sizes.{length-lines, lean-count}
 use Rattle.reg_compiler.proofs.AllowedLines.{after, or_else-none, condition-none, body-none}
 use Rattle.reg_compiler.proofs.AllowedInstrs.{IsTarget-flag}
 use Rattle.reg_compiler.proofs.AllowedExpressions.{IsScope, value_lines-allowed}
-use Rattle.reg_compiler.proofs.AllowedCommands.{term-fits, body-allowed}
+use Rattle.reg_compiler.proofs.AllowedCommands.{body-allowed}
+use Rattle.reg_compiler.proofs.BlockRuns.{take-own, drop-own}
+use Rattle.reg_compiler.proofs.FittingNeeds.{fits-term}
 
 refusal_where-none : (fails : Bool) (which : Rule) (index : ℕ) → fails ≡ false → refusal_where fails which index ≡ None
 refusal_where-none true which index is = cc
 refusal_where-none false which index is = refl
-
--- a front of the lines, and what follows it
-
-take-lines : (first next : List Line) → take (length first) (map instr_of (first ++ next)) ≡ map instr_of first
-take-lines [] next = refl
-take-lines (line ∷ rest) next = ap (λ instrs. line.instr ∷ instrs) (take-lines rest next)
-
-drop-lines : (first next : List Line) → drop (length first) (map instr_of (first ++ next)) ≡ map instr_of next
-drop-lines [] next = refl
-drop-lines (line ∷ rest) next = drop-lines rest next
 
 -- one event
 
@@ -79,15 +71,15 @@ instrs-none (part ∷ rest) form index is none =
     let own = and_parts (is_condition known part.condition) (is_body known part.locals part.body) split.0 in
     let term_is = (and_parts (is_term known part.condition) (term_is_truth known part.condition) own.0).0 in
     let after_term = none-next (deep_term part.condition) _ none in
-    let term_fits = term-fits part.condition (none-first (deep_term part.condition) _ none) in
-    let cut = drop-lines condition (body ++ lines) in
+    let term_fits = fits-term part.condition (none-first (deep_term part.condition) _ none) in
+    let cut = drop-own condition (body ++ lines) in
     or_else-none (event_refusal sizes event index instrs) _
     (event-none sizes event index instrs (map instr_of condition) (map instr_of body)
-    (take-lines condition (body ++ lines))
-    (ap (take (length body)) cut ∙ take-lines body lines)
+    (take-own condition (body ++ lines))
+    (ap (take (length body)) cut ∙ take-own body lines)
     (condition-none condition sizes index no_marks (value_lines-allowed part.condition (reg.Implicit Flag) 0 known sizes Condition true no_marks (IsScope-block form no_marks) term_is (omega (arith, term_fits)) (IsTarget-flag sizes)))
     (body-none body sizes (index + event.condition) between (body-allowed part.body known part.locals sizes between (IsScope-block form between) own.1 (none-first (deep_body part.body) _ after_term))))
-    (ap (instrs_refusal sizes (map event_of rest) (index + event.condition + event.body)) (ap (drop (length body)) cut ∙ drop-lines body lines)
+    (ap (instrs_refusal sizes (map event_of rest) (index + event.condition + event.body)) (ap (drop (length body)) cut ∙ drop-own body lines)
     ∙ instrs-none rest form (index + event.condition + event.body) split.1 (none-next (deep_body part.body) _ after_term))
 
 -- the events fill the lines

@@ -1,10 +1,10 @@
 -- The lines of commands and bodies fail no rule.
-use Rattle.std.proofs.Common.{◌≡◌, refl, ap, sym, ◌∙◌, ℕ, ◌+◌, ◌^◌, ◌<◌, ◌≤◌, Bool, true, false, not, ◌&&◌, ◌==◌, nat_lt, nat_le, max, if◌then◌else◌, inl, inr, Some, None, List, [], ◌∷◌, length, arith, length-append, ltb-true, ltb-false, lt-ltb, leb-true, eqb-true}
+use Rattle.std.proofs.Common.{◌≡◌, refl, ap, sym, ◌∙◌, ℕ, ◌+◌, ◌^◌, ◌<◌, ◌≤◌, Bool, true, false, not, ◌&&◌, ◌==◌, nat_lt, nat_le, max, inl, inr, None, List, [], ◌∷◌, length, arith, length-append, ltb-true, lt-ltb, leb-true, eqb-true}
 use Rattle.std.proofs.lemmas.Bool.{and_parts, or_cases, cases_lt}
 use Rattle.ccp_base.specs.declared.place.Place.{Place}
 use Rattle.portus_core.specs.declared.program.Var.{Var}
 use Rattle.portus_core.specs.declared.program.Var.TheVariants as var
-use Rattle.portus_core.specs.Programs.{Term, number, truth, name, pair, Action, set, set_if, set_unless, ewma, zero_micros, report, fall}
+use Rattle.portus_core.specs.Programs.{Term, number, Action, set, set_if, set_unless, ewma, zero_micros, report, fall}
 use Rattle.portus_core.specs.ValidPrograms.{KnownNames, is_known, is_truth, is_writable, term_is_truth, is_term, is_condition, fits_target, is_target, is_next_local, is_action, with_known_local, known_after, is_body}
 use Rattle.reg_code.specs.declared.code.Op.{Op}
 use Rattle.reg_code.specs.declared.code.Op.TheVariants as op
@@ -15,35 +15,12 @@ use Rattle.reg_code.specs.declared.rule.Rule.TheVariants as rule
 use Rattle.reg_code.specs.declared.rule.Sizes.{Sizes}
 use Rattle.reg_code.specs.AcceptedCode.{Marks, is_there, missing_value, is_bind, is_ewma, rule_failed}
 use Rattle.reg_code.specs.AcceptedLaws.{none-first, none-next}
-use Rattle.reg_compiler.specs.Needs.{kept_temporaries, need_of, action_need, deep_at, deep_term, deep_action, deep_body}
+use Rattle.reg_compiler.specs.Needs.{kept_temporaries, need_of, action_need, deep_action, deep_body}
 use Rattle.reg_compiler.specs.CompiledCode.{variable_reg, operand, first_free_after, value_lines, both_into, action_lines, body_lines}
+use Rattle.reg_compiler.proofs.FittingNeeds.{fits-action}
 use Rattle.reg_compiler.proofs.AllowedLines.{after, AreAllowed, AreAllowed-append, Grows, after-grows, none-mark}
 use Rattle.reg_compiler.proofs.AllowedInstrs.{IsOperand, IsOperand-grows, IsTarget, IsTarget-temp, conditional-none, ewma-none}
 use Rattle.reg_compiler.proofs.AllowedExpressions.{IsScope, IsScope-grows, IsOperand-name, value_lines-written, operand_lines, first_free_after-le, operand_lines-allowed, operation_lines-allowed, value_lines-allowed}
-
--- what isn't too deep fits into the temporaries
-
-deep_at-fits : (deep : Bool) (place : Place) → (if deep then Some place else None) ≡ None → deep ≡ false
-deep_at-fits true place none = cc
-deep_at-fits false place none = refl
-
-need-fits : (need : ℕ) (place : Place) → deep_at need place ≡ None → need ≤ 8
-need-fits need place none = ltb-false 8 need (deep_at-fits (nat_lt 8 need) place none)
-
-pub term-fits : (term : Term) → deep_term term ≡ None → need_of term ≤ 8
-term-fits (number n) none = omega arith
-term-fits (truth b) none = omega arith
-term-fits (name v) none = omega arith
-term-fits (pair o place left right) none = need-fits (need_of (pair o place left right)) place none
-
-action-fits : (action : Action) → deep_action action ≡ None → action_need action ≤ 8
-action-fits (set v term) none = term-fits term none
-action-fits (set_if place v condition term) none = need-fits (action_need (set_if place v condition term)) place none
-action-fits (set_unless place v condition term) none = need-fits (action_need (set_unless place v condition term)) place none
-action-fits (ewma place v weight term) none = need-fits (need_of term) place none
-action-fits zero_micros none = omega arith
-action-fits report none = omega arith
-action-fits fall none = omega arith
 
 -- targets
 
@@ -178,6 +155,6 @@ body-allowed [] known locals sizes marks scope is none = tt
 body-allowed (action ∷ rest) known locals sizes marks scope is none =
     let parts = and_parts (is_action known action) (is_body (known_after known action) locals rest) is in
     AreAllowed-append (action_lines action) (body_lines rest) sizes Body false marks
-    (action-allowed action known sizes marks scope parts.0 (action-fits action (none-first (deep_action action) (deep_body rest) none)))
+    (action-allowed action known sizes marks scope parts.0 (fits-action action (none-first (deep_action action) (deep_body rest) none)))
     refl
     (body-allowed rest (known_after known action) locals sizes (after (action_lines action) marks) (IsScope-after action known sizes marks scope) parts.1 (none-next (deep_action action) (deep_body rest) none))

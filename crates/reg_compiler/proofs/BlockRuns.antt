@@ -26,11 +26,12 @@ use Rattle.reg_compiler.proofs.BodyShapes.{Fits, Sized, Sized-body}
 use Rattle.reg_compiler.proofs.CommandRuns.{regs_of, Reads-regs_of, Comes-body}
 use Rattle.reg_compiler.proofs.WorkRuns.{Between, WorksAs, WorksAs-then, drop-lines}
 
-take-own : (lines rest : List Line) → take (length lines) (map instr_of (lines ++ rest)) ≡ map instr_of lines
+-- a front of the lines, and what follows it
+pub take-own : (lines rest : List Line) → take (length lines) (map instr_of (lines ++ rest)) ≡ map instr_of lines
 take-own [] rest = refl
 take-own (line ∷ lines) rest = ap (λ instrs. line.instr ∷ instrs) (take-own lines rest)
 
-drop-own : (lines rest : List Line) → drop (length lines) (map instr_of (lines ++ rest)) ≡ map instr_of rest
+pub drop-own : (lines rest : List Line) → drop (length lines) (map instr_of (lines ++ rest)) ≡ map instr_of rest
 drop-own [] rest = refl
 drop-own (line ∷ lines) rest = drop-own lines rest
 

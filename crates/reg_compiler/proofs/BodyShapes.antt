@@ -15,6 +15,7 @@ use Rattle.ccp_base.specs.Blending.{moving_average}
 use Rattle.portus_core.specs.Command.{Going, with_local, with_written, written_where, value_in, command_of, run_commands}
 use Rattle.portus_core.specs.ValidPrograms.{KnownNames, is_next_local, term_is_truth, known_after}
 use Rattle.portus_core.specs.ValidPrograms as names
+use Rattle.portus_core.proofs.EnvShapes.{IfOk-then_do, IfOk-then_do_from}
 
 pub record Sized (known : KnownNames) (env : Env) : Type 0 where
   pub fields : length env.fields ≡ length known.fields
@@ -69,10 +70,6 @@ Fits-set : (known : KnownNames) (v : Var) (is told : Bool) (value : ℕ) (going 
 Fits-set known v true told value going is fits = Fits-next known v told value going is fits
 Fits-set known v false told value going is fits = Fits-written known v value going fits
 
-IfOk-then_do : {A B F : Type 0} (result : Result A F) (next : A → Result B F) (P : B → Type 0) → ((a : A) → IfOk (next a) P) → IfOk (then_do result next) P
-IfOk-then_do (Ok a) next P keeps = keeps a
-IfOk-then_do (Err fault) next P keeps = tt
-
 pub Fits-command : (known : KnownNames) (action : Action) (ack : Ack) (going : Going) → Fits known going → IfOk (command_of action ack going) (Fits (known_after known action))
 Fits-command known (set v term) ack going fits =
     IfOk-then_do (value_in term ack going) (λ value. Ok (with_written v value going)) (Fits (known_after known (set v term)))
@@ -107,10 +104,6 @@ Sized-before known zero_micros env sized = sized
 Sized-before known report env sized = sized
 Sized-before known fall env sized = sized
 
-IfOk-in_turn : {A B F : Type 0} (result : Result A F) (next : A → Result B F) (Q : A → Type 0) (P : B → Type 0) → IfOk result Q → ((a : A) → Q a → IfOk (next a) P) → IfOk (then_do result next) P
-IfOk-in_turn (Ok a) next Q P holds keeps = keeps a holds
-IfOk-in_turn (Err fault) next Q P holds keeps = tt
-
 IfOk-weaker : {A F : Type 0} (result : Result A F) (Q P : A → Type 0) → ((a : A) → Q a → P a) → IfOk result Q → IfOk result P
 IfOk-weaker (Ok a) Q P weaker holds = weaker a holds
 IfOk-weaker (Err fault) Q P weaker holds = tt
@@ -118,7 +111,7 @@ IfOk-weaker (Err fault) Q P weaker holds = tt
 pub Sized-body : (known : KnownNames) (actions : List Action) (ack : Ack) (going : Going) → Fits known going → IfOk (run_commands actions ack going) (λ after. Sized known after.env)
 Sized-body known [] ack going fits = fits.sized
 Sized-body known (action ∷ rest) ack going fits =
-    IfOk-in_turn (command_of action ack going) (run_commands rest ack) (Fits (known_after known action)) (λ after. Sized known after.env)
+    IfOk-then_do_from (command_of action ack going) (run_commands rest ack) (Fits (known_after known action)) (λ after. Sized known after.env)
     (Fits-command known action ack going fits)
     (λ after fits_after. IfOk-weaker (run_commands rest ack after) (λ last. Sized (known_after known action) last.env) (λ last. Sized known last.env)
     (λ last. Sized-before known action last.env) (Sized-body (known_after known action) rest ack after fits_after))

@@ -21,13 +21,13 @@ second-none : (a b : Option Place) → option_or a b ≡ None → b ≡ None
 second-none None b none = none
 second-none (Some place) b none = absurd (cc)
 
-fits-term : (term : Term) → deep_term term ≡ None → need_of term ≤ 8
+pub fits-term : (term : Term) → deep_term term ≡ None → need_of term ≤ 8
 fits-term (number n) none = lit≤ tt
 fits-term (truth b) none = lit≤ tt
 fits-term (name v) none = lit≤ tt
 fits-term (pair op place left right) none = fits-at (need_of (pair op place left right)) place none
 
-fits-action : (action : Action) → deep_action action ≡ None → action_need action ≤ 8
+pub fits-action : (action : Action) → deep_action action ≡ None → action_need action ≤ 8
 fits-action (set v term) none = fits-term term none
 fits-action (set_if place v condition term) none = fits-at (action_need (set_if place v condition term)) place none
 fits-action (set_unless place v condition term) none = fits-at (action_need (set_unless place v condition term)) place none

@@ -1,12 +1,13 @@
 -- The names of a valid program have numbers below 256.
-use Rattle.std.proofs.Common.{◌≡◌, refl, ℕ, ◌≤◌, ◌<◌, Bool, true, false, not, ◌&&◌, ◌||◌, ◌==◌, nat_lt, nat_le, ◌⊎◌, inl, inr, List, [], ◌∷◌, length, arith, length-append, lit≤}
-use Rattle.std.proofs.lemmas.Bool.{ltb-true, lt-ltb, leb-true, eqb-true}
+use Rattle.std.proofs.Common.{◌≡◌, refl, ℕ, ◌≤◌, ◌<◌, Bool, true, false, not, ◌&&◌, ◌==◌, nat_lt, nat_le, inl, inr, List, [], ◌∷◌, length, arith, length-append, lit≤}
+use Rattle.std.proofs.lemmas.Bool.{and_from, and_parts, or_cases, ltb-true, lt-ltb, leb-true}
 use Rattle.ccp_base.specs.Limits.{primitive_count}
 use Rattle.portus_core.specs.declared.program.Var.{Var}
 use Rattle.ccp_base.specs.Limits.{primitive_count}
 use Rattle.portus_core.specs.declared.program.Var.TheVariants as var
 use Rattle.portus_core.specs.Programs.{Term, number, truth, name, pair, Action, set, set_if, set_unless, ewma, zero_micros, report, fall, Part, Form}
 use Rattle.portus_core.specs.ValidPrograms.{KnownNames, is_known, is_target, is_next_local, fits_target, is_condition, is_term, is_truth, term_is_truth, is_writable, is_action, with_known_local, known_after, is_body, are_parts, known_of, is_valid}
+use Rattle.portus_core.proofs.ValidIsRunnable.{next_has_room}
 use Rattle.reg_compiler.specs.Numbered.{is_numbered, is_numbered_term, is_numbered_action, is_numbered_body, are_numbered}
 
 -- names within the limits of a program
@@ -14,22 +15,6 @@ record IsSmall (known : KnownNames) : Type 0 where
   pub fields : length known.fields ≤ 64
   pub controls : length known.controls ≤ 64
   pub locals : length known.locals ≤ 8
-
-first : (a b : Bool) → a && b ≡ true → a ≡ true
-first true b both = refl
-first false b both = both
-
-second : (a b : Bool) → a && b ≡ true → b ≡ true
-second true b both = both
-second false b both = cc
-
-both : (a b : Bool) → a ≡ true → b ≡ true → a && b ≡ true
-both true b left right = right
-both false b left right = left
-
-either : (a b : Bool) → a || b ≡ true → (a ≡ true) ⊎ (b ≡ true)
-either true b one = inl refl
-either false b one = inr one
 
 below_256 : (i n : ℕ) → n ≤ 256 → nat_lt i n ≡ true → nat_lt i 256 ≡ true
 below_256 i n few is = lt-ltb i 256 (omega (arith, ltb-true i n is))
@@ -44,7 +29,7 @@ numbered-known known var.Rate small is = refl
 numbered-known known var.Micros small is = refl
 
 numbered-next : (known : KnownNames) (v : Var) → is_next_local known v ≡ true → is_numbered v ≡ true
-numbered-next known (var.Local i) is = below_256 i 8 (lit≤ tt) (second (i == length known.locals) (nat_lt i 8) is)
+numbered-next known (var.Local i) is = below_256 i 8 (lit≤ tt) (and_parts (i == length known.locals) (nat_lt i 8) is).1
 numbered-next known (var.Field i) is = absurd (cc)
 numbered-next known (var.Control i) is = absurd (cc)
 numbered-next known (var.Prim n) is = absurd (cc)
@@ -57,29 +42,29 @@ numbered-term known (number n) small is = refl
 numbered-term known (truth b) small is = refl
 numbered-term known (name v) small is = numbered-known known v small is
 numbered-term known (pair op place left right) small is =
-    both (is_numbered_term left) (is_numbered_term right)
-    (numbered-term known left small (first (is_term known left) (is_term known right) is))
-    (numbered-term known right small (second (is_term known left) (is_term known right) is))
+    and_from (is_numbered_term left) (is_numbered_term right)
+    (numbered-term known left small (and_parts (is_term known left) (is_term known right) is).0)
+    (numbered-term known right small (and_parts (is_term known left) (is_term known right) is).1)
 
 numbered-target : (known : KnownNames) (v : Var) → IsSmall known → is_target known v ≡ true → is_numbered v ≡ true
-numbered-target known v small is = numbered-known known v small (first (is_known known v) (is_writable v) is)
+numbered-target known v small is = numbered-known known v small (and_parts (is_known known v) (is_writable v) is).0
 
 numbered-condition : (known : KnownNames) (term : Term) → IsSmall known → is_condition known term ≡ true → is_numbered_term term ≡ true
-numbered-condition known term small is = numbered-term known term small (first (is_term known term) (term_is_truth known term) is)
+numbered-condition known term small is = numbered-term known term small (and_parts (is_term known term) (term_is_truth known term) is).0
 
 numbered-value : (known : KnownNames) (v : Var) (term : Term) → IsSmall known → fits_target known v term ≡ true → is_numbered_term term ≡ true
-numbered-value known v term small is = numbered-term known term small (first (is_term known term) _ is)
+numbered-value known v term small is = numbered-term known term small (and_parts (is_term known term) _ is).0
 
 numbered-set : (known : KnownNames) (v : Var) (term : Term) → IsSmall known → is_action known (set v term) ≡ true → is_numbered_action (set v term) ≡ true
-numbered-set known v term small is = elim (either (is_target known v && fits_target known v term) (is_next_local known v && is_term known term) is) [
+numbered-set known v term small is = elim (or_cases (is_target known v && fits_target known v term) (is_next_local known v && is_term known term) is) [
   | inl old ↦
-      both (is_numbered v) (is_numbered_term term)
-      (numbered-target known v small (first (is_target known v) (fits_target known v term) old))
-      (numbered-value known v term small (second (is_target known v) (fits_target known v term) old))
+      and_from (is_numbered v) (is_numbered_term term)
+      (numbered-target known v small (and_parts (is_target known v) (fits_target known v term) old).0)
+      (numbered-value known v term small (and_parts (is_target known v) (fits_target known v term) old).1)
   | inr next ↦
-      both (is_numbered v) (is_numbered_term term)
-      (numbered-next known v (first (is_next_local known v) (is_term known term) next))
-      (numbered-term known term small (second (is_next_local known v) (is_term known term) next))
+      and_from (is_numbered v) (is_numbered_term term)
+      (numbered-next known v (and_parts (is_next_local known v) (is_term known term) next).0)
+      (numbered-term known term small (and_parts (is_next_local known v) (is_term known term) next).1)
 ]
 
 numbered-choice : (known : KnownNames) (v : Var) (condition term : Term) → IsSmall known → is_target known v && is_condition known condition && fits_target known v term ≡ true → is_numbered v && (is_numbered_term condition && is_numbered_term term) ≡ true
@@ -87,12 +72,12 @@ numbered-choice known v condition term small is =
     let target = is_target known v in
     let held = is_condition known condition in
     let fits = fits_target known v term in
-    let front = first (target && held) fits is in
-    both (is_numbered v) (is_numbered_term condition && is_numbered_term term)
-    (numbered-target known v small (first target held front))
-    (both (is_numbered_term condition) (is_numbered_term term)
-    (numbered-condition known condition small (second target held front))
-    (numbered-value known v term small (second (target && held) fits is)))
+    let front = (and_parts (target && held) fits is).0 in
+    and_from (is_numbered v) (is_numbered_term condition && is_numbered_term term)
+    (numbered-target known v small (and_parts target held front).0)
+    (and_from (is_numbered_term condition) (is_numbered_term term)
+    (numbered-condition known condition small (and_parts target held front).1)
+    (numbered-value known v term small (and_parts (target && held) fits is).1))
 
 numbered-action : (known : KnownNames) (action : Action) → IsSmall known → is_action known action ≡ true → is_numbered_action action ≡ true
 numbered-action known (set v term) small is = numbered-set known v term small is
@@ -101,10 +86,10 @@ numbered-action known (set_unless place v condition term) small is = numbered-ch
 numbered-action known (ewma place v weight term) small is =
     let target = is_target known v in
     let plain = not (is_truth known v) in
-    let front = first (target && plain && nat_le weight 10) (is_term known term) is in
-    both (is_numbered v) (is_numbered_term term)
-    (numbered-target known v small (first target plain (first (target && plain) (nat_le weight 10) front)))
-    (numbered-term known term small (second (target && plain && nat_le weight 10) (is_term known term) is))
+    let front = (and_parts (target && plain && nat_le weight 10) (is_term known term) is).0 in
+    and_from (is_numbered v) (is_numbered_term term)
+    (numbered-target known v small (and_parts target plain (and_parts (target && plain) (nat_le weight 10) front).0).0)
+    (numbered-term known term small (and_parts (target && plain && nat_le weight 10) (is_term known term) is).1)
 numbered-action known zero_micros small is = refl
 numbered-action known report small is = refl
 numbered-action known fall small is = refl
@@ -113,17 +98,8 @@ small-with_local : (known : KnownNames) (next told : Bool) → IsSmall known →
 small-with_local known true told small room = record { fields = small.fields; controls = small.controls; locals = omega (arith, length-append known.locals (told ∷ []), room refl) }
 small-with_local known false told small room = small
 
-room-next : (known : KnownNames) (v : Var) → is_next_local known v ≡ true → length known.locals < 8
-room-next known (var.Local i) is = omega (arith, ltb-true i 8 (second (i == length known.locals) (nat_lt i 8) is), eqb-true i (length known.locals) (first (i == length known.locals) (nat_lt i 8) is))
-room-next known (var.Field i) is = absurd (cc)
-room-next known (var.Control i) is = absurd (cc)
-room-next known (var.Prim n) is = absurd (cc)
-room-next known var.Cwnd is = absurd (cc)
-room-next known var.Rate is = absurd (cc)
-room-next known var.Micros is = absurd (cc)
-
 small-after : (known : KnownNames) (action : Action) → IsSmall known → IsSmall (known_after known action)
-small-after known (set v term) small = small-with_local known (is_next_local known v) (term_is_truth known term) small (room-next known v)
+small-after known (set v term) small = small-with_local known (is_next_local known v) (term_is_truth known term) small (next_has_room known v)
 small-after known (set_if place v condition term) small = small
 small-after known (set_unless place v condition term) small = small
 small-after known (ewma place v weight term) small = small
@@ -135,21 +111,21 @@ numbered-body : (known : KnownNames) (locals : ℕ) (actions : List Action) → 
 numbered-body known locals [] small is = refl
 numbered-body known locals (action ∷ rest) small is =
     let after = is_body (known_after known action) locals rest in
-    both (is_numbered_action action) (is_numbered_body rest)
-    (numbered-action known action small (first (is_action known action) after is))
-    (numbered-body (known_after known action) locals rest (small-after known action small) (second (is_action known action) after is))
+    and_from (is_numbered_action action) (is_numbered_body rest)
+    (numbered-action known action small (and_parts (is_action known action) after is).0)
+    (numbered-body (known_after known action) locals rest (small-after known action small) (and_parts (is_action known action) after is).1)
 
 numbered-parts : (known : KnownNames) (parts : List Part) → IsSmall known → are_parts known parts ≡ true → are_numbered parts ≡ true
 numbered-parts known [] small is = refl
 numbered-parts known (part ∷ rest) small is =
     let held = is_condition known part.condition in
     let body = is_body known part.locals part.body in
-    let own = first (held && body) (are_parts known rest) is in
-    both (is_numbered_term part.condition) (is_numbered_body part.body && are_numbered rest)
-    (numbered-condition known part.condition small (first held body own))
-    (both (is_numbered_body part.body) (are_numbered rest)
-    (numbered-body known part.locals part.body small (second held body own))
-    (numbered-parts known rest small (second (held && body) (are_parts known rest) is)))
+    let own = (and_parts (held && body) (are_parts known rest) is).0 in
+    and_from (is_numbered_term part.condition) (is_numbered_body part.body && are_numbered rest)
+    (numbered-condition known part.condition small (and_parts held body own).0)
+    (and_from (is_numbered_body part.body) (are_numbered rest)
+    (numbered-body known part.locals part.body small (and_parts held body own).1)
+    (numbered-parts known rest small (and_parts (held && body) (are_parts known rest) is).1))
 
 pub numbered-valid : (form : Form) → is_valid form ≡ true → are_numbered form.blocks ≡ true
 numbered-valid form valid =
@@ -157,12 +133,12 @@ numbered-valid form valid =
     let controls = nat_le (length form.controls) 64 in
     let blocks = nat_le (length form.blocks) 64 in
     let parts = are_parts (known_of form) form.blocks in
-    let counts = first (fields && controls && blocks) parts valid in
-    let declared = first (fields && controls) blocks counts in
+    let counts = (and_parts (fields && controls && blocks) parts valid).0 in
+    let declared = (and_parts (fields && controls) blocks counts).0 in
     numbered-parts (known_of form) form.blocks
     (record {
-      fields = leb-true (length form.fields) 64 (first fields controls declared);
-      controls = leb-true (length form.controls) 64 (second fields controls declared);
+      fields = leb-true (length form.fields) 64 (and_parts fields controls declared).0;
+      controls = leb-true (length form.controls) 64 (and_parts fields controls declared).1;
       locals = lit≤ tt;
     })
-    (second (fields && controls && blocks) parts valid)
+    (and_parts (fields && controls && blocks) parts valid).1

@@ -1,15 +1,9 @@
 -- The last line of a flow: how many acknowledgements and reports there were, and how the flow stands.
-use Rattle.std.specs.Prelude.{ℕ, ◌==◌, ◌||◌, Bool, true, false, List, [], ◌∷◌, codes, decimal}
-use Rattle.ccp_base.specs.declared.exchange.Notice.{Notice}
+use Rattle.std.specs.Prelude.{ℕ, Bool, true, false, List, codes, decimal}
 use Rattle.portus_core.specs.declared.program.Decl.{Decl}
 use Rattle.report_lines.specs.declared.end_line.End.{End}
 use Rattle.ccp_base.specs.Text.{◌⧺◌}
 use Rattle.report_lines.specs.FieldsText.{window_text, fields_text}
-
--- one of the faults is of the epoch with this number
-abbrev pub is_faulted : ℕ → List Notice → Bool
-is_faulted number [] = false
-is_faulted number (notice ∷ rest) = (notice.epoch == number) || is_faulted number rest
 
 abbrev pub yes_or_no : Bool → List ℕ
 yes_or_no true = codes "yes"

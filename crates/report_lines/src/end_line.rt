@@ -1,9 +1,9 @@
 //! The last line of a flow: its counts, the unreported span, and its window and fields as they stand.
 ghost use Rattle.std.specs.Prelude.{◌≡◌, ◌++◌, OnOk};
-ghost use Rattle.report_lines.specs.EndLine.{end_head, end_line, end_tail, is_faulted, span_text, yes_or_no};
+ghost use Rattle.report_lines.specs.EndLine.{end_head, end_line, end_tail, span_text, yes_or_no};
 
 use crate::fields_text::{put_fields, put_window};
-use ccp_base::{Bytes, NoMemory, Notice, Values};
+use ccp_base::{Bytes, NoMemory, Values};
 use portus_core::Decl;
 use std::alloc::Global;
 
@@ -22,20 +22,6 @@ pub struct End {
     pub rate: u64,
     /// The fields as they stand, in order of declaration.
     pub fields: Values,
-}
-
-/// Whether one of the faults is of the epoch with this number.
-pub fn is_faulted(number: usize, faults: &[Notice]) -> bool
-    ensures { result ≡ is_faulted number faults.now }
-{
-    let mut left = faults;
-    while let Some((notice, rest)) = left.split_first() {
-        if notice.epoch as usize == number {
-            return true;
-        }
-        left = rest;
-    }
-    false
 }
 
 /// Appends the last line of a flow, whose program has these fields.

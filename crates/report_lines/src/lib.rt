@@ -7,7 +7,7 @@ mod fields_text;
 mod flow_line;
 mod report_line;
 
-pub use end_line::{End, is_faulted, put_end, put_end_head, put_end_tail};
+pub use end_line::{End, put_end, put_end_head, put_end_tail};
 pub use fault_line::{put_fault, put_fault_head, put_fault_line};
 pub use fields_text::{put_fields, put_window};
 pub use flow_line::put_flow_head;

@@ -24,8 +24,8 @@ use Rattle.flow_core.specs.LiveText.{fields_at, Account, epoch_lines, fault_line
 use Rattle.run_audit.specs.PartLeft.{body_text}
 use Rattle.run_audit.specs.Marks.{marks_at, ticket_marks, past, first_number, marked_number, number_by, marks_if, marks_in, marks_of_lines, text_marks}
 use Rattle.run_audit.proofs.ForcedLemmas.{AreWithin}
-use Rattle.run_audit.proofs.NumeralLemmas.{numeral_of-decimal}
-use Rattle.run_audit.proofs.Pieces.{joined, joined-append, IsPlain, plain-append, ended-part, decimal-plain, IsQuiet, quiet-append, quiet-decimal, ArePlain, AreQuiet, quiet-plain, first_line, taken-past, answered-past}
+use Rattle.ccp_base.proofs.DecimalLemmas.{joined, joined-append, numeral_of-decimal}
+use Rattle.run_audit.proofs.Pieces.{IsPlain, plain-append, ended-part, decimal-plain, IsQuiet, quiet-append, quiet-decimal, ArePlain, AreQuiet, quiet-plain, first_line, taken-past, answered-past}
 
 -- a line is the first of a text
 line-marks : (pieces : List (List ℕ)) (rest : List ℕ) → ArePlain pieces → starts_with nat_eq (joined pieces []) (codes "end ") ≡ false

@@ -1,26 +1,16 @@
 -- A text of pieces, and the pieces in which no line ends and no count of a ticket has its name.
-use Rattle.std.proofs.Common.{◌≡◌, ℕ, ◌+◌, ◌<◌, ◌/◌, ◌%◌, zero, suc, Bool, true, false, not, ◌&&◌, ◌==◌, nat_le, nat_eq, Some, List, [], ◌∷◌, ◌++◌, length, drop, codes, refl, ap, sym, ◌∙◌, arith, cond, append_assoc}
+use Rattle.std.proofs.Common.{◌≡◌, ℕ, Bool, true, false, not, ◌&&◌, nat_eq, Some, List, [], ◌∷◌, ◌++◌, length, drop, codes, refl, ap, sym, ◌∙◌, arith, cond, append_assoc}
 use Rattle.std.specs.List.{list_all, starts_with}
 use Rattle.std.specs.Bool.{⊤}
-use Rattle.std.specs.Fmt.{decimal, digits, digits_onto, digit_glyph}
-use Rattle.std.proofs.lemmas.Bool.{and_parts, and_from, lt-ltb, le-leb, eqb-true, false≢true}
+use Rattle.std.specs.Fmt.{decimal}
+use Rattle.std.proofs.lemmas.Bool.{and_parts, and_from, eqb-true, false≢true}
 use Rattle.std.proofs.lemmas.Bool.Decides.{nat_tests}
 use Rattle.ccp_base.specs.declared.parts.Separator.{Separator}
 use Rattle.ccp_base.specs.declared.parts.Separator.TheVariants.{LineFeed, Blank}
 use Rattle.ccp_base.specs.Numerals.{is_digit}
 use Rattle.ccp_base.specs.Parts.{separates, parts_of, with_first}
+use Rattle.ccp_base.proofs.DecimalLemmas.{decimal-digits, joined, joined-append}
 use Rattle.run_audit.specs.Marks.{past}
-
--- ---- pieces
-
--- pieces, and what follows them
-abbrev pub joined : List (List ℕ) → List ℕ → List ℕ
-joined [] rest = rest
-joined (piece ∷ pieces) rest = piece ++ joined pieces rest
-
-pub joined-append : (pieces : List (List ℕ)) (rest more : List ℕ) → joined pieces rest ++ more ≡ joined pieces (rest ++ more)
-joined-append [] rest more = refl
-joined-append (piece ∷ pieces) rest more = append_assoc piece (joined pieces rest) more ∙ ap (λ x. piece ++ x) (joined-append pieces rest more)
 
 -- ---- pieces without a separator
 
@@ -59,27 +49,6 @@ ended-part s (x ∷ xs) byte rest plain is =
     not_true false is = refl
 
 -- ---- digits
-
-digit_byte : (n : ℕ) → is_digit (digit_glyph false (n % 10)) ≡ true
-digit_byte n =
-    let below : n % 10 < 10 = omega arith in
-    ap (λ b. is_digit (cond b (48 + n % 10) (87 + n % 10))) (lt-ltb (n % 10) 10 below)
-    ∙ and_from (nat_le 48 (48 + n % 10)) (nat_le (48 + n % 10) 57) (le-leb 48 (48 + n % 10) (omega arith)) (le-leb (48 + n % 10) 57 (omega (arith, below)))
-
-onto-digits : (k n : ℕ) (more : List ℕ) → list_all is_digit more ≡ true → list_all is_digit (digits_onto k 10 false n more) ≡ true
-onto-digits zero n more is = is
-onto-digits (suc k) n more is =
-    let next = digit_glyph false (n % 10) ∷ more in
-    let these : list_all is_digit next ≡ true = and_from (is_digit (digit_glyph false (n % 10))) (list_all is_digit more) (digit_byte n) is in
-    either (n / 10 == 0) next (digits_onto k 10 false (n / 10) next) these (onto-digits k (n / 10) next these)
-  where
-    either : (b : Bool) (xs ys : List ℕ) → list_all is_digit xs ≡ true → list_all is_digit ys ≡ true → list_all is_digit (cond b xs ys) ≡ true
-    either true xs ys these those = these
-    either false xs ys these those = those
-
-pub decimal-digits : (n : ℕ) → list_all is_digit (decimal n) ≡ true
-unfolding digits
-decimal-digits n = onto-digits 64 n [] refl
 
 digit_plain : (s : Separator) (b : ℕ) → is_digit b ≡ true → not (separates s b) ≡ true
 digit_plain LineFeed b is = grind (arith, nat_tests)

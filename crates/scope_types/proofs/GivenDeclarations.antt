@@ -73,7 +73,8 @@ distinct_new xs x ys h =
     let below = get_below xs f.k f.decl f.there in
     omega arith)
 
-room_test : {A : Type 0} (xs : List A) (x : A) (ys : List A) → length (xs ++ x ∷ ys) ≤ 64 → nat_le 64 (length xs) ≡ false
+-- a list of at most 64 items has room in front of each
+pub room_test : {A : Type 0} (xs : List A) (x : A) (ys : List A) → length (xs ++ x ∷ ys) ≤ 64 → nat_le 64 (length xs) ≡ false
 room_test xs x ys h =
     let n = length-append xs (x ∷ ys) in
     let k : length xs < 64 = omega arith in

@@ -1,6 +1,5 @@
 -- Forms that stand for a program give it by their walk, so they stand for one at most.
-use Rattle.std.proofs.Common.{◌≡◌, ℕ, ◌≤◌, ◌<◌, true, false, not, refl, List, [], ◌∷◌, ◌++◌, length, Result, Ok, IfOk, nat_le, bytes_eq, codes, arith, ap, ◌∙◌, sym, subst, append-nil, append_assoc, length-append}
-use Rattle.std.proofs.lemmas.Bool.Decides.{nat_tests}
+use Rattle.std.proofs.Common.{◌≡◌, ℕ, ◌≤◌, true, false, not, refl, List, [], ◌∷◌, ◌++◌, length, Result, Ok, IfOk, nat_le, bytes_eq, codes, ap, ◌∙◌, sym, subst, append-nil, append_assoc}
 use Rattle.ccp_base.specs.declared.place.Place.{Place}
 use Rattle.portus_core.specs.declared.program.Decl.{Decl}
 use Rattle.portus_core.specs.Programs.{Term, Part, Form}
@@ -19,7 +18,7 @@ use Rattle.scope_types.proofs.ScopedDeclarations.{AddsParts, parts_scoped}
 use Rattle.scope_types.proofs.ScopedSource.{nothing_proper, same_start}
 use Rattle.scope_types.proofs.GivenExpressions.{expression_given}
 use Rattle.scope_types.proofs.GivenCommands.{then_given, if_false, if_true, kind_given, body_given}
-use Rattle.scope_types.proofs.GivenDeclarations.{parts_given}
+use Rattle.scope_types.proofs.GivenDeclarations.{parts_given, room_test}
 use Rattle.scope_types.proofs.ValidSource as valid
 
 condition_given : (names : Scope) (node : Node) (t : Term) → IsProper names → IsTerm names node t true → condition_walk names node ≡ Ok t
@@ -52,12 +51,6 @@ record AreBlocksGiven (names : Scope) (done : List Part) (nodes : Nodes) (parts 
   gives : blocks_walk names done nodes ≡ Ok (done ++ parts, after)
   fields : after.fields ≡ names.fields
   controls : after.controls ≡ names.controls
-
-room_test : {A : Type 0} (xs : List A) (x : A) (ys : List A) → length (xs ++ x ∷ ys) ≤ 64 → nat_le 64 (length xs) ≡ false
-room_test xs x ys h =
-    let n = length-append xs (x ∷ ys) in
-    let k : length xs < 64 = omega arith in
-    grind (arith, nat_tests)
 
 more_given : (names between after : Scope) (done : List Part) (node : Node) (rest : Nodes) (part : Part) (parts : List Part) → form_walk names (length done) node ≡ Ok (part, between) → blocks_walk between (done ++ part ∷ []) rest ≡ Ok ((done ++ part ∷ []) ++ parts, after) → blocks_walk names done (more node rest) ≡ Ok (done ++ part ∷ parts, after)
 more_given names between after done node rest part parts e f =

@@ -108,7 +108,7 @@ local_of ls w n f =
     let there : slice_get ls n ≡ Some f.local = ap (slice_get ls) e ∙ f.there in
     record { local = f.local; there = there; named = f.named; kind = slice_get-map ls n ∙ ap (λ (o : Option Local). is_bool_there (let truth : Option Bool = elim o [ Some l ↦ Some l.truth | None ↦ None ] in truth)) there }
 
-variable_or_means : (P : Var → Type 0) (kind : ℕ → Var) (n : Option ℕ) (rest : Option Var) → IfSome n (λ i. P (kind i)) → IfSome rest P → IfSome (variable_or kind n rest) P
+pub variable_or_means : (P : Var → Type 0) (kind : ℕ → Var) (n : Option ℕ) (rest : Option Var) → IfSome n (λ i. P (kind i)) → IfSome rest P → IfSome (variable_or kind n rest) P
 variable_or_means P kind (Some i) rest p q = p
 variable_or_means P kind None rest p q = q
 

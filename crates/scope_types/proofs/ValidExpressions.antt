@@ -18,20 +18,16 @@ use Rattle.ccp_base.specs.Operations.{operator_of}
 use Rattle.ccp_base.specs.Limits.{primitive_count}
 use Rattle.ccp_base.specs.PrimitiveNames.{primitive_named}
 use Rattle.scope_types.specs.ValueWords.{constant_of}
-use Rattle.scope_types.specs.Names.{decl_from, local_from, variable_or, meaning_of}
+use Rattle.scope_types.specs.Names.{decl_from, local_from, meaning_of}
 use Rattle.scope_types.specs.Scope.{Scope, known_in}
 use Rattle.scope_types.specs.ExpressionWalk.{or_refused, name_walk, variable_walk, word_walk, pair_walk, expression_walk}
 use Rattle.scope_types.proofs.Results.{if_ok, both_true}
-use Rattle.scope_types.proofs.ScopedExpressions.{primitive_count_of}
+use Rattle.scope_types.proofs.ScopedExpressions.{primitive_count_of, some_mono, variable_or_means}
 
 -- what holds of a choice's value holds in each branch
 pub if_some : {A : Type 0} (b : Bool) (r s : Option A) (P : A → Type 0) → IfSome r P → IfSome s P → IfSome (if b then r else s) P
 if_some true r s P f g = f
 if_some false r s P f g = g
-
-some_mono : {A : Type 0} (r : Option A) (P Q : A → Type 0) → IfSome r P → ((a : A) → P a → Q a) → IfSome r Q
-some_mono (Some a) P Q p f = f a p
-some_mono None P Q p f = tt
 
 decl_below : (i : ℕ) (ds : List Decl) (w : List ℕ) → IfSome (decl_from i ds w) (λ n. n < i + length ds)
 decl_below i [] w = tt
@@ -46,10 +42,6 @@ local_below i (d ∷ ds) w =
     if_some (bytes_eq d.name w) (Some i) (local_from (i + 1) ds w) _
     (let here : i < i + length (d ∷ ds) = omega arith in here)
     (some_mono (local_from (i + 1) ds w) _ _ (local_below (i + 1) ds w) (λ n h. let there : n < i + length (d ∷ ds) = omega arith in there))
-
-variable_or_known : (P : Var → Type 0) (kind : ℕ → Var) (n : Option ℕ) (rest : Option Var) → IfSome n (λ i. P (kind i)) → IfSome rest P → IfSome (variable_or kind n rest) P
-variable_or_known P kind (Some i) rest p q = p
-variable_or_known P kind None rest p q = q
 
 below_test : (a b : ℕ) → a < b → IsTrue (nat_lt a b)
 below_test a b h = grind (arith, nat_tests)
@@ -70,10 +62,10 @@ pub meaning_known : (names : Scope) (w : List ℕ) → IfSome (meaning_of names 
 meaning_known names w =
     let P : Var → Type 0 = λ v. IsTrue (is_known (known_in names) v) in
     if_some (is_field_use w) _ _ P
-    (variable_or_known P var.Field (decl_from 0 names.fields (drop 7 w)) None (decl_known names.fields (drop 7 w)) tt)
-    (variable_or_known P var.Prim (primitive_named w) _ (primitive_below w)
-    (variable_or_known P var.Control (decl_from 0 names.controls w) _ (decl_known names.controls w)
-    (variable_or_known P var.Local (local_from 0 names.locals w) None (local_known names w) tt)))
+    (variable_or_means P var.Field (decl_from 0 names.fields (drop 7 w)) None (decl_known names.fields (drop 7 w)) tt)
+    (variable_or_means P var.Prim (primitive_named w) _ (primitive_below w)
+    (variable_or_means P var.Control (decl_from 0 names.controls w) _ (decl_known names.controls w)
+    (variable_or_means P var.Local (local_from 0 names.locals w) None (local_known names w) tt)))
 
 -- and so is a variable of the language
 pub variable_known : (known : KnownNames) (w : List ℕ) → IfSome (variable_of w) (λ v. IsTrue (is_known known v))
