@@ -1,6 +1,6 @@
 -- The definitions of shared_link, a file each; files named ..Laws have what follows from them.
--- Public contracts cite SharedLaws, SharedLimits, SharedRounds and SharedStanding. Kept, KeptFlows and Reached belong to
--- the proofs: they say what a link keeps and how it moves from step to step.
+-- Public contracts cite SharedLaws, SharedLimits, SharedRounds and SharedStanding. Kept, KeptFlows and Reached belong
+-- to the proofs: they say what a link keeps and how it moves from step to step.
 pub mod Kept
 pub mod KeptFlows
 pub mod Reached
