@@ -19,7 +19,8 @@ reply_of ticket = (replied ticket.before ticket.told).1
 abbrev pub frame_by : ℕ → Agent → Reply → List ℕ
 frame_by flow agent Nothing = []
 frame_by flow agent (Update cwnd) = update_bytes One flow (values_of agent (Update cwnd))
-frame_by flow agent (Change program cwnd cap) = change_bytes One flow program (values_of agent (Change program cwnd cap))
+frame_by flow agent (Change program cwnd cap) =
+    change_bytes One flow program (values_of agent (Change program cwnd cap))
 
 -- the frame for the datapath
 abbrev pub frame_of : Ticket → List ℕ

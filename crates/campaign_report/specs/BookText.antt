@@ -30,7 +30,8 @@ last_program program (epoch ∷ rest) = last_program epoch.program rest
 
 -- the places of the program with this number, which is one of the case's two
 abbrev pub places_in : List (ℕ × Built) → Case → ℕ → List Place
-places_in programs case = by_number case (program_places programs case.ss.role.number) (program_places programs case.ca.role.number)
+places_in programs case =
+    by_number case (program_places programs case.ss.role.number) (program_places programs case.ca.role.number)
 
 -- a fault, with the place of its instruction
 abbrev pub placed_failure : List (ℕ × Built) → Case → Notice → Failure Place

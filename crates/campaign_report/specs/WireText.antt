@@ -16,7 +16,8 @@ version_for fields = if nat_lt most_short_fields fields then Two else One
 
 -- the Install of a program, for flow 0
 abbrev pub install_frame : ℕ → Built → List ℕ
-install_frame number built = frame_bytes (version_for (length (form_of built.program).fields)) (Install 0 number built.code.code)
+install_frame number built =
+    frame_bytes (version_for (length (form_of built.program).fields)) (Install 0 number built.code.code)
 
 abbrev pub install_head : ℕ → List ℕ
 install_head number = codes "install " ⧺ decimal number ⧺ codes " "

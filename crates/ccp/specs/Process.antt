@@ -14,7 +14,8 @@ use Rattle.ccp.specs.declared.words.WordsFault.TheVariants as faults
 use Rattle.ccp.specs.Words.{words_fault}
 
 -- the status is that of a run on the words
-pub record IsExit (words : List (List ℕ)) (source sink errors : StreamChange) (is_finished : Type 0) (status : ℕ) : Type 0 where
+pub record IsExit (words : List (List ℕ)) (source sink errors : StreamChange) (is_finished : Type 0)
+    (status : ℕ) : Type 0 where
   pub outcome : Outcome
   pub is : status ≡ outcome.status
   pub run : DoesWords words source sink errors is_finished outcome
@@ -36,14 +37,16 @@ pub record EndsWithout (fault : WordsFault) (source sink errors : StreamChange) 
   pub reported : ReportsFault fault errors number
 
 -- a run on all the words that the system gives, in order
-pub record RunsOnAll {I Z : Type 0} (next : I → Option (String Z) → I → Type 0) (given : I) (source sink errors : StreamChange) (is_finished : Type 0) (number : ℕ) : Type 0 where
+pub record RunsOnAll {I Z : Type 0} (next : I → Option (String Z) → I → Type 0) (given : I)
+    (source sink errors : StreamChange) (is_finished : Type 0) (number : ℕ) : Type 0 where
   pub words : List (String Z)
   pub all : Drains next given words
   pub exit : IsExit (map string_bytes words) source sink errors is_finished number
 
 -- the process runs the tool on all the words that the system gives, unless there is no memory for their list; if the
 -- system reports an error instead, it ends without a run
-abbrev pub IsProcess : {I Z : Type 0} → (I → Option (String Z) → I → Type 0) → Result I Error → StreamChange → StreamChange → StreamChange → Type 0 → ℕ → Type 0
+abbrev pub IsProcess : {I Z : Type 0} → (I → Option (String Z) → I → Type 0) → Result I Error → StreamChange
+    → StreamChange → StreamChange → Type 0 → ℕ → Type 0
 IsProcess next (Ok given) source sink errors is_finished number =
     RunsOnAll next given source sink errors is_finished number ⊎ EndsWithout faults.NoMemory source sink errors number
 IsProcess next (Err error) source sink errors is_finished number =

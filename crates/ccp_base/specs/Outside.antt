@@ -45,13 +45,15 @@ pub record AppendsPrefix (old new : Known) (bytes : List ℕ) : Type 0 where
   pub appends : Appends old new (take count bytes)
 
 -- two pieces taken one after the other are taken as one
-pub Takes-append : (old middle new : Known) (first next : List ℕ) → Takes old middle first → Takes middle new next → Takes old new (first ++ next)
+pub Takes-append : (old middle new : Known) (first next : List ℕ)
+    → Takes old middle first → Takes middle new next → Takes old new (first ++ next)
 Takes-append old middle None first next before after = cc
 Takes-append old middle (Some left) first next before after =
     before ∙ ap (option_map (λ bytes. first ++ bytes)) after ∙ ap Some (sym (append_assoc first next left))
 
 -- two pieces appended one after the other are appended as one
-pub Appends-append : (old middle new : Known) (first next : List ℕ) → Appends old middle first → Appends middle new next → Appends old new (first ++ next)
+pub Appends-append : (old middle new : Known) (first next : List ℕ)
+    → Appends old middle first → Appends middle new next → Appends old new (first ++ next)
 Appends-append None middle new first next before after = cc
 Appends-append (Some written) middle new first next before after =
     after ∙ ap (option_map (λ bytes. bytes ++ next)) before ∙ ap Some (append_assoc written first next)

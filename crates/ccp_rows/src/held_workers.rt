@@ -61,7 +61,8 @@ fn two_workers_do_parts_at_once(rt: HostRuntime) -> Result<(), Fail> {
     Ok(())
 }
 
-/// Worker 0 is held before its part of the first round until worker 1 has done its own, and so it is in the second round.
+/// Worker 0 is held before its part of the first round until worker 1 has done its own, and so it is in the second
+/// round.
 #[test]
 fn two_workers_do_parts_at_once_in_two_rounds(rt: HostRuntime) -> Result<(), Fail> {
     let first = Hold {
@@ -142,8 +143,8 @@ fn shows<R: Threads + Wait + Sync>(
     shows_on(rt, alloc, &["ccp", mode], input, gate, part)
 }
 
-/// A flow with three acknowledgements, each of which shows a loss in a report. Its two programs are one, and two reports
-/// may wait.
+/// A flow with three acknowledgements, each of which shows a loss in a report. Its two programs are one, and two
+/// reports may wait.
 const LOSING: &[u8] =
     b"{\"version\":1,\"programs\":{\"p\":\"(def (Report (volatile loss 0))) (when true (:= Report.loss 1) (report))\"},\"traces\":{\"t\":\"10\\n\"},\"cases\":[{\"name\":\"a\",\"agent\":\"reno\",\"trace\":\"t\",\"mss\":1448,\"queue\":10,\"delay_us\":20000,\"timeout_us\":1000000,\"acks\":3,\"slots\":2,\"ss\":\"p\",\"ca\":\"p\"}]}";
 
@@ -261,8 +262,8 @@ fn a_worker_does_parts_of_two_flows(rt: HostRuntime) -> Result<(), Fail> {
     Ok(())
 }
 
-/// Worker 0 has flows 0 and 2, of which flow 2 ends first. It is held before the acknowledgement of flow 2 until worker 1
-/// has asked flow 1 three times, and again before the last one of flow 0, which is its seventh.
+/// Worker 0 has flows 0 and 2, of which flow 2 ends first. It is held before the acknowledgement of flow 2 until worker
+/// 1 has asked flow 1 three times, and again before the last one of flow 0, which is its seventh.
 #[test]
 fn a_datapath_serves_two_flows_to_their_ends(rt: HostRuntime) -> Result<(), Fail> {
     let second = Hold {
@@ -352,8 +353,8 @@ fn an_agent_settles_the_flow_that_reported(rt: HostRuntime) -> Result<(), Fail> 
     Ok(())
 }
 
-/// The agent is held with its first ticket until the second acknowledgement, and the datapath before the third one until
-/// the agent has settled twice.
+/// The agent is held with its first ticket until the second acknowledgement, and the datapath before the third one
+/// until the agent has settled twice.
 #[test]
 fn an_agent_settles_twice_between_acknowledgements(rt: HostRuntime) -> Result<(), Fail> {
     let agent = Hold {

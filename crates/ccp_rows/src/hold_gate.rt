@@ -8,8 +8,8 @@ const TURNS: u32 = 2_000_000;
 /// How many loads a turn makes.
 const LOADS: u32 = 1000;
 
-/// A worker's passing of a point, by how often it passed there, from 1 on, and the number of the flow or case there; None
-/// if any of several may come.
+/// A worker's passing of a point, by how often it passed there, from 1 on, and the number of the flow or case there;
+/// None if any of several may come.
 #[derive(Clone, Copy)]
 pub(crate) struct Moment {
     pub(crate) worker: u32,

@@ -1,6 +1,6 @@
 //! Tests of the whole tool that its process can't show: streams that fail, inputs in pieces, workers that are held, and
-//! values of a run that aren't printed, books of flows over one bottleneck among them. Its inputs and outputs are the rows
-//! of `rows/` at the top.
+//! values of a run that aren't printed, books of flows over one bottleneck among them. Its inputs and outputs are the
+//! rows of `rows/` at the top.
 #![tactic(auto)]
 
 #[cfg(test)]

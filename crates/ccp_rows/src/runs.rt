@@ -14,8 +14,8 @@ pub(crate) const ONE_CASE: &[u8] =
 pub(crate) const FIRST_REPORT: &[u8] =
     b"(def (Report (volatile acked 0))) (when true (:= Report.acked (+ Report.acked Ack.bytes_acked)) (fallthrough)) (when (> Report.acked 2999) (report))\n---\nbytes_acked=1500\nbytes_acked=1500\nbytes_acked=1500\n";
 
-/// Which calls of the source, of the sink and of the error stream fail, and how many bytes a call of the source or of the
-/// sink takes.
+/// Which calls of the source, of the sink and of the error stream fail, and how many bytes a call of the source or of
+/// the sink takes.
 #[derive(Clone, Copy)]
 pub(crate) struct FailingCalls<'a> {
     pub(crate) read: &'a [u64],

@@ -20,7 +20,8 @@ source_acks sources case = acks_read (flow_from sources case) case.link case.lag
 
 -- the lines of the acknowledgements of cases of these programs
 abbrev pub acks_written : List (ℕ × Built) → List Case → List ℕ
-acks_written programs cases = acks_text (case_names cases) (case_agents cases) (map (source_acks (sources_of programs)) cases)
+acks_written programs cases =
+    acks_text (case_names cases) (case_agents cases) (map (source_acks (sources_of programs)) cases)
 
 -- the output is these lines
 pub record TellsAcks (programs : List (ℕ × Built)) (cases : List Case) (output : ModeOutput) : Type 0 where

@@ -37,7 +37,8 @@ campaign_text wire programs cases =
     frames_shown wire programs ⧺ table_text (case_names cases) (case_agents cases) (source_rows programs cases)
 
 -- the output is that table
-pub record TellsCampaign (wire : Bool) (programs : List (ℕ × Built)) (cases : List Case) (output : ModeOutput) : Type 0 where
+pub record TellsCampaign (wire : Bool) (programs : List (ℕ × Built)) (cases : List Case)
+    (output : ModeOutput) : Type 0 where
   pub written : output.text ≡ campaign_text wire programs cases
   pub no_books : output.books ≡ []
   pub idle : output.ran ≡ 0

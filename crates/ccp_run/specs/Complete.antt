@@ -16,7 +16,8 @@ EndsAs end outcome = (outcome.status ≡ status_number end) ⊎ (outcome.status 
 
 -- bytes are past the limit, or have a first refusal
 abbrev pub IsNoInput : Task → List ℕ → Type 0
-IsNoInput task bytes = ((is_read task ≡ true) × (limit_of task < length bytes)) ⊎ ((refusal : Refusal) × IsInputRefusal task bytes refusal)
+IsNoInput task bytes =
+    ((is_read task ≡ true) × (limit_of task < length bytes)) ⊎ ((refusal : Refusal) × IsInputRefusal task bytes refusal)
 
 -- if no count of faults rose, an input of the mode within the limit is answered by the mode's output, and every
 -- other one is refused; the sink's count matters to a refusal only if answers are written before it
@@ -29,6 +30,7 @@ pub record AnswersOrRefuses (task : Task) (source sink : StreamChange) (outcome 
       → EndsAs status.InputRefused outcome
 
 -- what a call does that is given a task: it is a run of the task, and a complete one
-pub record DoesTask (task : Task) (source sink errors : StreamChange) (is_finished : Type 0) (outcome : Outcome) : Type 0 where
+pub record DoesTask (task : Task) (source sink errors : StreamChange) (is_finished : Type 0)
+    (outcome : Outcome) : Type 0 where
   pub run : IsRun task source sink errors is_finished outcome
   pub complete : AnswersOrRefuses task source sink outcome

@@ -23,7 +23,8 @@ pub record Ends (errors : StreamChange) (outcome : Outcome) (end : Status) (line
   pub told : Tells errors line
 
 -- the whole output was written and the sink finished, nothing was reported, and the rest of the output is kept
-pub record WritesAll (sink errors : StreamChange) (is_finished : Type 0) (outcome : Outcome) (output : ModeOutput) : Type 0 where
+pub record WritesAll (sink errors : StreamChange) (is_finished : Type 0) (outcome : Outcome)
+    (output : ModeOutput) : Type 0 where
   pub written : Appends sink.old sink.new output.text
   pub finished : is_finished
   pub books : outcome.books ≡ output.books
@@ -38,19 +39,24 @@ pub record FailsToWrite (sink errors : StreamChange) (outcome : Outcome) (output
   pub front : AppendsPrefix sink.old sink.new output.text
 
 -- the output is written, or a write fails
-pub record Writes (sink errors : StreamChange) (is_finished : Type 0) (outcome : Outcome) (output : ModeOutput) : Type 0 where
+pub record Writes (sink errors : StreamChange) (is_finished : Type 0) (outcome : Outcome)
+    (output : ModeOutput) : Type 0 where
   pub whole : outcome.status ≡ status_number status.Done → WritesAll sink errors is_finished outcome output
   pub failed : outcome.status ≢ status_number status.Done → FailsToWrite sink errors outcome output
 
 -- the refusal is reported, or out of memory for its line; that the input is too long is always reported
 pub record Refuses (errors : StreamChange) (outcome : Outcome) (refusal : Refusal) : Type 0 where
-  pub told : outcome.status ≡ status_number status.InputRefused → Ends errors outcome status.InputRefused (refusal_line refusal)
+  pub told : outcome.status ≡ status_number status.InputRefused
+      → Ends errors outcome status.InputRefused (refusal_line refusal)
   pub failed : outcome.status ≢ status_number status.InputRefused → Ends errors outcome status.NoMemory memory_line
   pub too_long : (limit : Limit) → refusal ≡ TooLong limit → outcome.status ≡ status_number status.InputRefused
 
 -- how a run with this outcome ends; if there is no output the sink is as it was
 abbrev pub IsEnding : StreamChange → StreamChange → Type 0 → Outcome → Result ModeOutput Stop → Type 0
 IsEnding sink errors is_finished outcome (Ok output) = Writes sink errors is_finished outcome output
-IsEnding sink errors is_finished outcome (Err (stop.Refused refusal)) = (sink.new ≡ sink.old) × Refuses errors outcome refusal
-IsEnding sink errors is_finished outcome (Err stop.ReadFailed) = (sink.new ≡ sink.old) × Ends errors outcome status.ReadFailed read_line
-IsEnding sink errors is_finished outcome (Err stop.NoMemory) = (sink.new ≡ sink.old) × Ends errors outcome status.NoMemory memory_line
+IsEnding sink errors is_finished outcome (Err (stop.Refused refusal)) =
+    (sink.new ≡ sink.old) × Refuses errors outcome refusal
+IsEnding sink errors is_finished outcome (Err stop.ReadFailed) =
+    (sink.new ≡ sink.old) × Ends errors outcome status.ReadFailed read_line
+IsEnding sink errors is_finished outcome (Err stop.NoMemory) =
+    (sink.new ≡ sink.old) × Ends errors outcome status.NoMemory memory_line

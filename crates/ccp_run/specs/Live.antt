@@ -32,7 +32,8 @@ books_written wire programs books = frames_shown wire programs ⧺ live_text (so
 
 -- there is one book for each of the cases, in order, which has a legal and complete word, and the output is the live
 -- text of these words. Nothing says which words they are.
-pub record TellsLive (wire : Bool) (programs : List (ℕ × Built)) (cases : List Case) (output : ModeOutput) : Type 0 where
+pub record TellsLive (wire : Bool) (programs : List (ℕ × Built)) (cases : List Case)
+    (output : ModeOutput) : Type 0 where
   pub books : book_cases output.books ≡ cases
   pub right : All (IsRightBook programs) output.books
   pub written : output.text ≡ books_written wire programs output.books

@@ -49,4 +49,6 @@ abbrev pub SaysRollout : List ℕ → List OpenPlan → Type 0
 SaysRollout bytes plans = rollout_of bytes ≡ Ok plans
 
 abbrev pub rollout_rules : Rules
-rollout_rules = reads_whole Input (λ bytes. SaysSomething (SaysRollout bytes)) IsRolloutOutput (λ bytes. IsOfScene (HasRolloutFault bytes))
+rollout_rules =
+    reads_whole Input (λ bytes. SaysSomething (SaysRollout bytes)) IsRolloutOutput
+    (λ bytes. IsOfScene (HasRolloutFault bytes))

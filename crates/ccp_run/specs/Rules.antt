@@ -23,7 +23,8 @@ pub record Rules : Type 1 where
   pub IsRefused : List ℕ → Refusal → Type 0
 
 -- the rules of a mode that reads an input within this limit to its end and then writes
-abbrev pub reads_whole : Limit → (List ℕ → Type 0) → (List ℕ → ModeOutput → Type 0) → (List ℕ → Refusal → Type 0) → Rules
+abbrev pub reads_whole : Limit → (List ℕ → Type 0) → (List ℕ → ModeOutput → Type 0) → (List ℕ → Refusal → Type 0)
+    → Rules
 reads_whole most inputs made refused = record {
   limit = most;
   is_read = true;

@@ -53,7 +53,8 @@ pub record WritesSomeAnswers (task : Task) (source sink : StreamChange) : Type 0
 -- ---- each status
 
 -- 0: the input was read to its end, exactly the mode's output was written, and the sink was finished
-pub record IsDone (task : Task) (source sink errors : StreamChange) (is_finished : Type 0) (outcome : Outcome) : Type 0 where
+pub record IsDone (task : Task) (source sink errors : StreamChange) (is_finished : Type 0)
+    (outcome : Outcome) : Type 0 where
   pub output : ModeOutput
   pub made : MakesOutput task source output
   pub written : WritesAll sink errors is_finished outcome output
@@ -95,14 +96,16 @@ pub record IsOutOfMemory (task : Task) (source sink errors : StreamChange) (outc
 abbrev pub EndsWith : Status → Task → StreamChange → StreamChange → StreamChange → Type 0 → Outcome → Type 0
 EndsWith status.Done task source sink errors is_finished outcome = IsDone task source sink errors is_finished outcome
 EndsWith status.WordsRefused task source sink errors is_finished outcome = ⊥
-EndsWith status.InputRefused task source sink errors is_finished outcome = IsInputRefused task source sink errors outcome
+EndsWith status.InputRefused task source sink errors is_finished outcome =
+    IsInputRefused task source sink errors outcome
 EndsWith status.ReadFailed task source sink errors is_finished outcome = IsReadFailed task source sink errors outcome
 EndsWith status.WriteFailed task source sink errors is_finished outcome = IsWriteFailed task source sink errors outcome
 EndsWith status.NoMemory task source sink errors is_finished outcome = IsOutOfMemory task source sink errors outcome
 
 -- ---- every run
 
-pub record IsRun (task : Task) (source sink errors : StreamChange) (is_finished : Type 0) (outcome : Outcome) : Type 0 where
+pub record IsRun (task : Task) (source sink errors : StreamChange) (is_finished : Type 0)
+    (outcome : Outcome) : Type 0 where
   -- at most one byte more than the limit is taken
   pub most : TakesWithin (limit_of task + 1) source.old source.new
   -- a source that the task doesn't read isn't touched

@@ -22,7 +22,8 @@ abbrev pub Says : SceneMode → List ℕ → Scene → Type 0
 Says mode bytes scene = scene_of mode bytes ≡ Ok scene
 
 -- bytes are a scenario's text, and these are its programs and cases
-pub record IsScenario (mode : SceneMode) (bytes : List ℕ) (programs : List (ℕ × Built)) (cases : List Case) : Type 0 where
+pub record IsScenario (mode : SceneMode) (bytes : List ℕ) (programs : List (ℕ × Built))
+    (cases : List Case) : Type 0 where
   pub text : Says mode bytes (scene_with (sources_of programs) (map plan_of cases))
   pub coded : All (IsCoded programs) cases
   pub flows : AreFlowsFrom 0 cases
@@ -63,7 +64,8 @@ StopsScene mode bytes = StopsFor (HasFault mode bytes)
 abbrev pub Telling : Type 1
 Telling = List (ℕ × Built) → List Case → ModeOutput → Type 0
 
--- the bytes are a scenario's text; the output keeps its programs, and shows what it must for them and the scenario's cases
+-- the bytes are a scenario's text; the output keeps its programs, and shows what it must for them and the scenario's
+-- cases
 pub record IsSceneOutput (mode : SceneMode) (Tells : Telling) (bytes : List ℕ) (output : ModeOutput) : Type 0 where
   pub cases : List Case
   pub scenario : IsScenario mode bytes output.programs cases

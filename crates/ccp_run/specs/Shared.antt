@@ -29,7 +29,8 @@ abbrev pub SaysShared : List ℕ → SharedParts → Type 0
 SaysShared bytes parts = shared_scene_of bytes ≡ Ok parts
 
 -- bytes are such a text, and these are its programs and cases, its link, and the most rounds
-pub record IsSharedScenario (bytes : List ℕ) (programs : List (ℕ × Built)) (cases : List Case) (link : SharedCase) (rounds : ℕ) : Type 0 where
+pub record IsSharedScenario (bytes : List ℕ) (programs : List (ℕ × Built)) (cases : List Case) (link : SharedCase)
+    (rounds : ℕ) : Type 0 where
   pub text : SaysShared bytes (shared_with (scene_with (sources_of programs) (map plan_of cases)) link rounds)
   pub coded : All (IsCoded programs) cases
   pub flows : AreFlowsFrom 0 cases
@@ -47,8 +48,9 @@ StopsShared bytes = StopsFor (HasSharedFault bytes)
 -- the rounds and the packets of a link
 abbrev pub link_line : Counts → List ℕ
 link_line counts =
-    codes "link rounds=" ⧺ decimal counts.rounds ⧺ codes " sent=" ⧺ decimal counts.sent ⧺ codes " acked=" ⧺ decimal counts.acked
-    ⧺ codes " lost=" ⧺ decimal counts.lost ⧺ codes " inflight=" ⧺ decimal counts.inflight ⧺ codes "\n"
+    codes "link rounds=" ⧺ decimal counts.rounds ⧺ codes " sent=" ⧺ decimal counts.sent
+    ⧺ codes " acked=" ⧺ decimal counts.acked ⧺ codes " lost=" ⧺ decimal counts.lost
+    ⧺ codes " inflight=" ⧺ decimal counts.inflight ⧺ codes "\n"
 
 -- the table of cases of these programs over their link, read over the programs' sources, and the link's line
 abbrev pub shared_text : List (ℕ × Built) → List Case → SharedCase → ℕ → List ℕ
@@ -73,4 +75,6 @@ pub record IsSharedOutput (bytes : List ℕ) (output : ModeOutput) : Type 0 wher
   pub idle : output.ran ≡ 0
 
 abbrev pub shared_rules : Rules
-shared_rules = reads_whole Input (λ bytes. SaysSomething (SaysShared bytes)) IsSharedOutput (λ bytes. IsOfScene (HasSharedFault bytes))
+shared_rules =
+    reads_whole Input (λ bytes. SaysSomething (SaysShared bytes)) IsSharedOutput
+    (λ bytes. IsOfScene (HasSharedFault bytes))

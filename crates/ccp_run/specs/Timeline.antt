@@ -31,7 +31,8 @@ timeline_text wire programs cases =
 
 -- the output is that text of the cases, and there is one book for each of these, in order, whose word is the campaign
 -- word, which is legal and complete, and which shows what the word means
-pub record TellsTimeline (wire : Bool) (programs : List (ℕ × Built)) (cases : List Case) (output : ModeOutput) : Type 0 where
+pub record TellsTimeline (wire : Bool) (programs : List (ℕ × Built)) (cases : List Case)
+    (output : ModeOutput) : Type 0 where
   pub books : flows_of output.books ≡ planned_by (sources_of programs) cases
   pub right : All (IsRightBook programs) output.books
   pub written : output.text ≡ timeline_text wire programs cases

@@ -10,7 +10,8 @@ use Rattle.ccp_run.specs.Run.{IsRun, IsUnasked}
 use Rattle.ccp_run.specs.Statuses.{status_number}
 use Rattle.ccp_run.specs.Streams.{StreamChange}
 
-pub record DoesWords (given : List (List ℕ)) (source sink errors : StreamChange) (is_finished : Type 0) (outcome : Outcome) : Type 0 where
+pub record DoesWords (given : List (List ℕ)) (source sink errors : StreamChange) (is_finished : Type 0)
+    (outcome : Outcome) : Type 0 where
   -- status 2 comes exactly if the words aren't accepted; then nothing is read or written
   pub words : outcome.status ≢ status_number status.NoMemory
       → (outcome.status ≡ status_number status.WordsRefused) ↔ (are_accepted given ≡ false)

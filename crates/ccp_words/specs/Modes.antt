@@ -7,10 +7,10 @@ use Rattle.ccp_words.specs.declared.mode.ToolMode.TheVariants.{Alone, Live, Camp
 
 -- each mode that is there, after its name
 abbrev pub modes : List (List ℕ × ToolMode)
-modes = (codes "check", Alone Check) ∷ (codes "fold", Alone Fold) ∷ (codes "feed", Alone Feed) ∷ (codes "audit", Alone Audit)
-    ∷ (codes "live", Live) ∷ (codes "campaign", Campaign) ∷ (codes "soak", Soak)
-    ∷ (codes "rollout", Rollout) ∷ (codes "shared", Shared)
-    ∷ (codes "timeline", Timeline) ∷ (codes "acks", Acks) ∷ []
+modes =
+    (codes "check", Alone Check) ∷ (codes "fold", Alone Fold) ∷ (codes "feed", Alone Feed)
+    ∷ (codes "audit", Alone Audit) ∷ (codes "live", Live) ∷ (codes "campaign", Campaign) ∷ (codes "soak", Soak)
+    ∷ (codes "rollout", Rollout) ∷ (codes "shared", Shared) ∷ (codes "timeline", Timeline) ∷ (codes "acks", Acks) ∷ []
 
 abbrev pub mode_names : List (List ℕ)
 mode_names = map (λ mode. mode.0) modes

@@ -47,8 +47,10 @@ wire_flag = record (new_rule (codes "wire")) { long = Some (codes "wire"); actio
 abbrev pub command_line : HeldNames → App
 command_line names = record {
   top = record (new_shape (codes "ccp")) {
-    rules = mode_argument names ∷ number_option (codes "datapaths") 1 most_of_a_kind ∷ number_option (codes "agents") 1 most_of_a_kind
-        ∷ number_option (codes "workers") 1 most_of_a_kind ∷ number_option (codes "number") 0 most_campaign_number ∷ wire_flag ∷ [];
+    rules =
+        mode_argument names ∷ number_option (codes "datapaths") 1 most_of_a_kind
+        ∷ number_option (codes "agents") 1 most_of_a_kind ∷ number_option (codes "workers") 1 most_of_a_kind
+        ∷ number_option (codes "number") 0 most_campaign_number ∷ wire_flag ∷ [];
     disable_help_flag = true;
     disable_version_flag = true;
   };

@@ -114,7 +114,13 @@ first_cubic mss ss ca = record {
 abbrev pub after_timeout : CubicState → Replied
 after_timeout s =
     let ssthresh = bytes_of s.mss (decreased s.window) in (
-      record s { course = course_after SlowStart s.course; w_prior = s.window; ssthresh = ssthresh; window = 1000; calm = 0 },
+      record s {
+        course = course_after SlowStart s.course;
+        w_prior = s.window;
+        ssthresh = ssthresh;
+        window = 1000;
+        calm = 0;
+      },
       change_to SlowStart s.course (bytes_of s.mss 1000) ssthresh,
     )
 

@@ -26,8 +26,8 @@ struct StepText {
     events: usize,
 }
 
-/// A desk whose answers come from a list. Texts are built from the number of the flow, and an entry is the number of its
-/// step.
+/// A desk whose answers come from a list. Texts are built from the number of the flow, and an entry is the number of
+/// its step.
 #[derive(Drop)]
 struct StepDesk<'a, R: Abort> {
     rt: &'a R,
@@ -153,7 +153,8 @@ fn desk<'a, R: Abort>(rt: &'a R, alloc: Global, answers: &[bool]) -> Result<Step
 fn work<R: Abort>(desk: &mut StepDesk<R>, worker: u32, first: u32, workers: u32)
     requires workers { 1 ≤ workers }
     requires free { desk.old.held ≡ None }
-    ensures { Equips worker (tasks (flows_of_worker first workers desk.old.flows) most_steps) (Some desk.old.events.items) (Some desk.new.events.items) }
+    ensures { Equips worker (tasks (flows_of_worker first workers desk.old.flows) most_steps)
+        (Some desk.old.events.items) (Some desk.new.events.items) }
 {
     drop(run_installer(desk, worker, first, workers));
 }

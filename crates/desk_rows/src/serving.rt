@@ -102,7 +102,8 @@ fn desk<'a, R: Abort>(
 fn work<R: Abort>(desk: &mut AnswerDesk<R>, worker: u32, datapaths: u32)
     requires datapaths { 1 ≤ datapaths }
     requires free { desk.old.held ≡ None }
-    ensures { Serves worker (flows_of_worker worker datapaths desk.old.flows) (Some desk.old.events.items) (Some desk.new.events.items) }
+    ensures { Serves worker (flows_of_worker worker datapaths desk.old.flows) (Some desk.old.events.items)
+        (Some desk.new.events.items) }
 {
     drop(run_datapath_worker(desk, worker, datapaths));
 }

@@ -83,7 +83,8 @@ impl<F: LockedFlow> FlowTable<F> {
     }
 
     /// The flows, each of its case, in order. A lock's type can't tell whose flow it keeps, so cases are compared: a
-    /// flow of its own case is handed on as its workers left it, which tests show, and one of another case is made anew.
+    /// flow of its own case is handed on as its workers left it, which tests show, and one of another case is made
+    /// anew.
     pub fn close(self, alloc: Global) -> Result<Sequence<F>, NoMemory>
         ensures { IfOk result (λ flows. map F.case_of flows ≡ self) }
     {

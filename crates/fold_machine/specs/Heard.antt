@@ -49,8 +49,15 @@ report_after (faulted kind index) report = report
 report_after lost report = report
 
 abbrev pub after_made : Made → MachineState → Option Acked × MachineState
-after_made made state =
-    (answer_for made.outcome, record state { kept = made.kept; is_stopped = stops made.outcome; ran = made.ran; report = report_after made.outcome state.report })
+after_made made state = (
+  answer_for made.outcome,
+  record state {
+    kept = made.kept;
+    is_stopped = stops made.outcome;
+    ran = made.ran;
+    report = report_after made.outcome state.report;
+  },
+)
 
 -- acknowledgements of a stopped program aren't run
 abbrev pub heard_where : Bool → Code → Ack → Bool → MachineState → Option Acked × MachineState

@@ -10,4 +10,5 @@ declared_words (start ∷ rest) at words = declared_words rest (at + 1) (slice_s
 -- the start value of each volatile register is written, from a place on
 abbrev pub reset_words : List Start → ℕ → List ℕ → List ℕ
 reset_words [] at words = words
-reset_words (start ∷ rest) at words = reset_words rest (at + 1) (if start.volatile then slice_set words at start.value else words)
+reset_words (start ∷ rest) at words =
+    reset_words rest (at + 1) (if start.volatile then slice_set words at start.value else words)

@@ -23,8 +23,19 @@ abbrev pub machine_code : Coded MachineState
 machine_code =
     code_by
     (List ℕ × (List ℕ × (ℕ × (ℕ × (ℕ × (Bool × (Bool × (ℕ × (List ℕ × PoolState)))))))))
-    (coded× (coded_list coded_ℕ) (coded× (coded_list coded_ℕ) (coded× coded_ℕ (coded× coded_ℕ (coded× coded_ℕ (coded× coded_bool (coded× coded_bool (coded× coded_ℕ (coded× (coded_list coded_ℕ) pool_code)))))))))
-    (λ m. (m.kept.reports, (m.kept.controls, (m.kept.cwnd, (m.kept.rate, (m.kept.zero, (m.is_started, (m.is_stopped, (m.ran, (m.report, m.further))))))))))
+    (coded× (coded_list coded_ℕ)
+    (coded× (coded_list coded_ℕ)
+    (coded× coded_ℕ
+    (coded× coded_ℕ
+    (coded× coded_ℕ
+    (coded× coded_bool (coded× coded_bool (coded× coded_ℕ (coded× (coded_list coded_ℕ) pool_code)))))))))
+    (λ m. (
+      m.kept.reports,
+      (
+        m.kept.controls,
+        (m.kept.cwnd, (m.kept.rate, (m.kept.zero, (m.is_started, (m.is_stopped, (m.ran, (m.report, m.further))))))),
+      ),
+    ))
     (λ t. record {
       kept = record { reports = t.0; controls = t.1.0; cwnd = t.1.1.0; rate = t.1.1.1.0; zero = t.1.1.1.1.0 };
       is_started = t.1.1.1.1.1.0;
@@ -54,5 +65,6 @@ pub record Fits (state : MachineState) (code : Code) : Type 0 where
 -- all that a machine holds besides its further slots, as numbers
 abbrev pub machine_numbers : MachineState → List ℕ
 machine_numbers state =
-    bool_number state.is_started ∷ bool_number state.is_stopped ∷ state.ran ∷ state.kept.cwnd ∷ state.kept.rate ∷ state.kept.zero
-    ∷ length state.kept.reports ∷ length state.kept.controls ∷ (state.kept.reports ++ (state.kept.controls ++ state.report))
+    bool_number state.is_started ∷ bool_number state.is_stopped ∷ state.ran ∷ state.kept.cwnd ∷ state.kept.rate
+    ∷ state.kept.zero ∷ length state.kept.reports ∷ length state.kept.controls
+    ∷ (state.kept.reports ++ (state.kept.controls ++ state.report))

@@ -22,9 +22,13 @@ fronts-same (x ∷ a) b (y ∷ c) d long same =
 -- two machines with the same rest differ in their further slots alone
 pub same_rest : (a b : MachineState) → machine_numbers a ≡ machine_numbers b → a ≡ record b { further = a.further }
 same_rest a b same =
-    let at : (n : ℕ) → slice_index (machine_numbers a) n ≡ slice_index (machine_numbers b) n = λ n. ap (λ xs. slice_index xs n) same in
-    let lists : a.kept.reports ++ (a.kept.controls ++ a.report) ≡ b.kept.reports ++ (b.kept.controls ++ b.report) = ap (drop 8) same in
-    let reports = fronts-same a.kept.reports (a.kept.controls ++ a.report) b.kept.reports (b.kept.controls ++ b.report) (at 6) lists in
+    let at : (n : ℕ) → slice_index (machine_numbers a) n ≡ slice_index (machine_numbers b) n =
+    λ n. ap (λ xs. slice_index xs n) same in
+    let lists : a.kept.reports ++ (a.kept.controls ++ a.report) ≡ b.kept.reports ++ (b.kept.controls ++ b.report) =
+    ap (drop 8) same in
+    let reports =
+    fronts-same a.kept.reports (a.kept.controls ++ a.report) b.kept.reports (b.kept.controls ++ b.report) (at 6)
+    lists in
     let controls = fronts-same a.kept.controls a.report b.kept.controls b.report (at 7) reports.1 in
     λ i. record {
       kept = record { reports = reports.0 i; controls = controls.0 i; cwnd = at 3 i; rate = at 4 i; zero = at 5 i };

@@ -41,7 +41,8 @@ with_line_value values (Some n) (Some value) = with_number values n value
 -- the value that a word `name=numeral` gives
 abbrev pub with_named_value : LineValues → List ℕ → Option LineValues
 with_named_value values word =
-    option_and_then (λ at. with_line_value values (value_named (take at word)) (numeral_of (drop (at + 1) word))) (position (λ byte. byte == 61) word)
+    option_and_then (λ at. with_line_value values (value_named (take at word)) (numeral_of (drop (at + 1) word)))
+    (position (λ byte. byte == 61) word)
 
 -- two blanks may stand side by side
 abbrev pub with_one_word : LineValues → List ℕ → Option LineValues

@@ -93,7 +93,8 @@ code_after built folding ack = running_after built.code.code (folding_code_run f
 
 -- the reports of it
 abbrev pub reports_after : Built → Folding → Ack → List Report
-reports_after built folding ack = reports_at (by_source (form_of built.program)) fold_reporter (with_room ack) (folding_track folding)
+reports_after built folding ack =
+    reports_at (by_source (form_of built.program)) fold_reporter (with_room ack) (folding_track folding)
 
 -- the fault so far
 abbrev pub fault_in : Built → Folding → Option (ℕ × Cause)
@@ -101,12 +102,17 @@ fault_in built folding = option_map (told_fault built.places) folding.fault
 
 -- the fault after it, which is the first one
 abbrev pub fault_after : Built → Folding → Ack → Option (ℕ × Cause)
-fault_after built folding ack = option_or (fault_in built folding) (event_fault (by_source (form_of built.program)) (with_room ack) (folding_track folding))
+fault_after built folding ack =
+    option_or (fault_in built folding)
+    (event_fault (by_source (form_of built.program)) (with_room ack) (folding_track folding))
 
 -- if it is the next of some acknowledgements, the notice is still of one of these
 abbrev pub KeepsNotice : Built → Ack → Folding → Folding → Type 0
 KeepsNotice built ack before now =
-    (acks : List Ack) → slice_get acks before.count ≡ Some ack → HasNotice acks built.places before → HasNotice acks built.places now
+    (acks : List Ack)
+    → slice_get acks before.count ≡ Some ack
+    → HasNotice acks built.places before
+    → HasNotice acks built.places now
 
 -- the notice of a fault at it
 abbrev pub folding_notice : Folding → ℕ → FaultKind → ℕ → ℕ → Notice

@@ -13,7 +13,9 @@ primitive_word n = slice_index_or (map (λ known. known.1) primitive_names) n []
 
 -- the first word of a text gives the primitive with this number the numeral that the rest begins with
 pub record GivesNumeral (text : List ℕ) (number : ℕ) (rest : List ℕ) : Type 0 where
-  pub word : (values : LineValues) → with_one_word values (first_of Blank text) ≡ with_line_value values (Some number) (numeral_of (first_of Blank rest))
+  pub word : (values : LineValues)
+      → with_one_word values (first_of Blank text)
+      ≡ with_line_value values (Some number) (numeral_of (first_of Blank rest))
   pub after : after_separator Blank text ≡ after_separator Blank rest
 
 -- the first word of a text gives no primitive a value

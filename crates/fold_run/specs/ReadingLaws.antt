@@ -44,4 +44,7 @@ pub record AreAcks (lines : List (List ℕ)) (acks : List Ack) : Type 0 where
   pub few : length acks ≤ most_acks
 
 abbrev pub AcksLaw : Type 0
-AcksLaw = (next : ℕ) (lines : List (List ℕ)) (acks : List Ack) → (acks_of_lines next lines ≡ Ok acks → AreAcks lines acks) × (AreAcks lines acks → acks_of_lines next lines ≡ Ok acks)
+AcksLaw =
+    (next : ℕ) (lines : List (List ℕ)) (acks : List Ack)
+    → (acks_of_lines next lines ≡ Ok acks → AreAcks lines acks)
+    × (AreAcks lines acks → acks_of_lines next lines ≡ Ok acks)

@@ -20,7 +20,8 @@ pub record IsFirstChance (times : List ℕ) (at start k : ℕ) : Type 0 where
 -- the first number from `here` on that passes a test, if at most `steps` numbers before it fail
 abbrev pub first_passing : (ℕ → Bool) → ℕ → ℕ → ℕ
 first_passing passes zero here = here
-first_passing passes (suc steps) here = elim (passes here) as (λ _. ℕ) [ true ↦ here | false ↦ first_passing passes steps (suc here) ]
+first_passing passes (suc steps) here =
+    elim (passes here) as (λ _. ℕ) [ true ↦ here | false ↦ first_passing passes steps (suc here) ]
 
 -- the first chance from this number on that comes at or after a time: `Trace::first_chance_law` says of every trace
 -- that it is

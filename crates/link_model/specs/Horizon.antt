@@ -35,8 +35,8 @@ pub record IsTimely (case : LinkCase) (standing : Standing) : Type 0 where
   pub chances : (k : ℕ) → k < standing.chance → chance_time case.trace k ≤ horizon standing.sent standing.calls
   pub arrivals : ArriveWithin (horizon standing.sent standing.calls + case.delay_us) standing.arrivals
 
--- what a link keeps beside how it stands: the room for packets, the line of those that wait, how many are in flight, and
--- how many of the losses listed have numbers below the next packet's; the next packet arrives after those in flight
+-- what a link keeps beside how it stands: the room for packets, the line of those that wait, how many are in flight,
+-- and how many of the losses listed have numbers below the next packet's; the next packet arrives after those in flight
 pub record IsKept (case : LinkCase) (traffic : Traffic) : Type 0 where
   pub valid : IsTrace case.trace
   pub capacity : traffic.flight.capacity ≡ most_flight

@@ -75,8 +75,8 @@ abbrev pub is_marked : Option ℕ → ℕ → Bool
 is_marked None queued = false
 is_marked (Some mark) queued = nat_le mark queued
 
--- the fate of the packet `number` of a flow, if `losses` are listed as lost, the queue holds `queue` packets, packets are
--- marked if at least `mark` wait, and `queued` wait: lost, or served at `chance`
+-- the fate of the packet `number` of a flow, if `losses` are listed as lost, the queue holds `queue` packets, packets
+-- are marked if at least `mark` wait, and `queued` wait: lost, or served at `chance`
 abbrev pub fate_of : List ℕ → ℕ → Option ℕ → ℕ → ℕ → ℕ → Fate
 fate_of losses queue mark number queued chance =
     if is_listed number losses || nat_le queue queued then Lost
@@ -105,7 +105,8 @@ is_lost Lost = true
 is_lost (Served chance marked) = false
 
 abbrev pub takes : Taking → Numbered → Bool
-takes (packet_and_lost_below number) sent = (sent.number == number) || (is_lost sent.packet.fate && nat_lt sent.number number)
+takes (packet_and_lost_below number) sent =
+    (sent.number == number) || (is_lost sent.packet.fate && nat_lt sent.number number)
 takes (all_below sent_count) sent = nat_lt sent.number sent_count
 
 -- the packets that are left
@@ -233,7 +234,8 @@ abbrev pub answer_by : LinkCase → List Packet → List GivenAck → List Numbe
 answer_by case packets givens flight (arrives number sent_at chance marked) = record {
   taking = packet_and_lost_below number;
   ack = arrival_ack case sent_at (arrival_of case chance) marked (past_of givens)
-      (lost_by (packet_and_lost_below number) flight) (length (left_by (packet_and_lost_below number) flight)) (acked_of givens + 1)
+      (lost_by (packet_and_lost_below number) flight) (length (left_by (packet_and_lost_below number) flight))
+      (acked_of givens + 1)
       (length packets);
 }
 answer_by case packets givens flight all_lost = record {

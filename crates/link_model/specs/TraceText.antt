@@ -69,7 +69,8 @@ times_of (line ∷ rest) = with_time (trace_line line) (times_of rest)
 -- the number of the first line that is neither a time nor blank; the first line here has this number
 abbrev pub first_bad_line : ℕ → List (List ℕ) → Option ℕ
 first_bad_line number [] = None
-first_bad_line number (line ∷ rest) = if is_bad_line (trace_line line) then Some number else first_bad_line (number + 1) rest
+first_bad_line number (line ∷ rest) =
+    if is_bad_line (trace_line line) then Some number else first_bad_line (number + 1) rest
 
 -- the number of the first line whose time is below the one before
 abbrev pub first_fall : ℕ → ℕ → List (List ℕ) → Option ℕ

@@ -85,8 +85,8 @@ impl OpenCell {
     }
 
     /// Takes the link's next acknowledgement, which is only counted before the first change, and then run. Ended if and
-    /// only if all acknowledgements are in; nothing changes then. None if and only if no change came yet. `steps` counts
-    /// the instructions that are run.
+    /// only if all acknowledgements are in; nothing changes then. None if and only if no change came yet. `steps`
+    /// counts the instructions that are run.
     pub fn ack<L: Ledger>(&mut self, steps: &mut Steps<L>) -> Result<Option<Acked>, Ended>
         ensures ended { IsErr result ↔ HasAll self.old }
         ensures ok { OnOk result (self.new ≡ record self.old { word = self.old.word ++ OpenLetter.A ∷ [] }) }

@@ -22,11 +22,14 @@ declaration_number name decls = position (has_name name) (take most_fields decls
 below_where : (n m limit x : ℕ) → m ≤ limit → cond (nat_lt n m) (Some n) None ≡ Some x → x < limit
 below_where n m limit x short found = grind (arith, nat_tests)
 
-below_limit : (name : List ℕ) (decls : List Decl) (limit : ℕ) → length (take most_fields decls) ≤ limit → ForSome (declaration_number name decls) (λ n. n < limit)
+below_limit : (name : List ℕ) (decls : List Decl) (limit : ℕ)
+    → length (take most_fields decls) ≤ limit → ForSome (declaration_number name decls) (λ n. n < limit)
 below_limit name decls limit short = λ x found.
-    below_where (position_or_len (has_name name) (take most_fields decls)) (length (take most_fields decls)) limit x short found
+    below_where (position_or_len (has_name name) (take most_fields decls)) (length (take most_fields decls)) limit x
+    short found
 
-pub number_of-below : (name : List ℕ) (decls : List Decl) → ForSome (declaration_number name decls) (λ n. n < most_fields)
+pub number_of-below : (name : List ℕ) (decls : List Decl)
+    → ForSome (declaration_number name decls) (λ n. n < most_fields)
 number_of-below name decls = below_limit name decls most_fields (omega (arith, length-take most_fields decls))
 
 -- the numbers of the fields and control variables with the names that agents know

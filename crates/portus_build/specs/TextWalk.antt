@@ -1,4 +1,5 @@
--- The program of a text, or its first refusal, found by one walk after another: over its bytes, its tokens and its forms.
+-- The program of a text, or its first refusal, found by one walk after another: over its bytes, its tokens and its
+-- forms.
 use Rattle.std.specs.Prelude.{ℕ, nat_lt, if◌then◌else◌, Option, Some, None, Result, Ok, Err, List, length, map}
 use Rattle.ccp_base.specs.Limits.{most_text_bytes}
 use Rattle.ccp_base.specs.declared.place.Place.{Place}

@@ -23,7 +23,8 @@ after_body false rest going = Ok going
 
 -- the body runs if the condition is true
 abbrev pub after_condition : Bool → List Action → (Going → Result Going Cause) → Ack → Going → Result Going Cause
-after_condition true body rest ack going = then_do (run_commands body ack going) (λ done. after_body done.falls rest done)
+after_condition true body rest ack going =
+    then_do (run_commands body ack going) (λ done. after_body done.falls rest done)
 after_condition false body rest ack going = rest going
 
 -- the blocks in order

@@ -41,7 +41,8 @@ start_from None values env = Ok (with_values values env)
 
 -- the start of an epoch with these values
 abbrev pub epoch_start : Form → List Pair → ℕ → ℕ → ℕ → Result Env StartFault
-epoch_start form values cwnd rate now = start_from (first_bad_pair (length form.controls) values) values (declared_env form cwnd rate now)
+epoch_start form values cwnd rate now =
+    start_from (first_bad_pair (length form.controls) values) values (declared_env form cwnd rate now)
 
 -- what happens in an epoch: an acknowledgement, with whether there is room for a report, or an update
 pub data Event : Type 0 where
@@ -103,11 +104,13 @@ next_first (failed fault) track = track.first
 next_first stopped track = track.first
 
 abbrev pub after_outcome : {F : Type 0} → Outcome F × Env → Track → Track
-after_outcome met track = record { env = met.1; is_stopped = stops met.0; first = next_first met.0 track; count = track.count + 1 }
+after_outcome met track =
+    record { env = met.1; is_stopped = stops met.0; first = next_first met.0 track; count = track.count + 1 }
 
 -- an update writes, and doesn't start a stopped epoch
 abbrev pub after_event : {F : Type 0} → Reading F → Event → Track → Track
-after_event reading (acknowledged ack room) track = after_outcome (heard reading track.is_stopped track.env ack room) track
+after_event reading (acknowledged ack room) track =
+    after_outcome (heard reading track.is_stopped track.env ack room) track
 after_event reading (updated values) track = record track { env = with_values values track.env }
 
 -- an epoch after its events

@@ -88,7 +88,9 @@ term_of-Truth value = ap term_of (sym (rolls-Truth value)) ∙ fold-roll-Expr Te
 pub term_of-Var : (var : Var) → term_of (expr.Var var) ≡ name var
 term_of-Var var = ap term_of (sym (rolls-Var var)) ∙ fold-roll-Expr Term term_step (layer.Var var)
 
-pub term_of-Pair : (op : Op2) (place : Place) (left right : Box Expr Global) → term_of (expr.Pair op place left right) ≡ pair op place (term_of left.value) (term_of right.value)
-term_of-Pair op place left right = ap term_of (sym (rolls-Pair op place left right)) ∙ fold-roll-Expr Term term_step (layer.Pair op place left right)
+pub term_of-Pair : (op : Op2) (place : Place) (left right : Box Expr Global)
+    → term_of (expr.Pair op place left right) ≡ pair op place (term_of left.value) (term_of right.value)
+term_of-Pair op place left right =
+    ap term_of (sym (rolls-Pair op place left right)) ∙ fold-roll-Expr Term term_step (layer.Pair op place left right)
 
 pub ruleset terms = (term_of-Num, term_of-Truth, term_of-Var, term_of-Pair)

@@ -10,7 +10,8 @@ abbrev pub locals_of : List (Option ℕ) → Locals
 locals_of values i = option_flatten (slice_get values i)
 
 abbrev pub going_of : Progress → Going
-going_of progress = record { env = progress.env; locals = locals_of progress.locals; asked = progress.asked; falls = progress.falls }
+going_of progress =
+    record { env = progress.env; locals = locals_of progress.locals; asked = progress.asked; falls = progress.falls }
 
 -- a run gave the state that the definition gives, or its fault
 abbrev pub RunsAs : Result (Unit {0}) Cause → Progress → Result Going Cause → Type 0

@@ -42,7 +42,8 @@ reports_at reading reporter (updated values) track = []
 -- the reports of an epoch's events, in order
 abbrev pub reports : {F : Type 0} → Reading F → Reporter → List Event → Track → List Report
 reports reading reporter [] track = []
-reports reading reporter (event ∷ rest) track = reports_at reading reporter event track ++ reports reading reporter rest (after_event reading event track)
+reports reading reporter (event ∷ rest) track =
+    reports_at reading reporter event track ++ reports reading reporter rest (after_event reading event track)
 
 -- the span that isn't reported yet: from the last report, or else from the change, to the count of acknowledgements
 abbrev pub tail : {F : Type 0} → Reading F → List Event → Track → ℕ × ℕ
@@ -56,10 +57,12 @@ fault_met held at = None
 fault_met stopped at = None
 
 abbrev pub event_fault : {F : Type 0} → Reading F → Event → Track → Option (ℕ × F)
-event_fault reading (acknowledged ack room) track = fault_met (heard reading track.is_stopped track.env ack room).0 track.count
+event_fault reading (acknowledged ack room) track =
+    fault_met (heard reading track.is_stopped track.env ack room).0 track.count
 event_fault reading (updated values) track = None
 
 -- the fault that stopped the epoch, with the number of its acknowledgement
 abbrev pub epoch_fault : {F : Type 0} → Reading F → List Event → Track → Option (ℕ × F)
 epoch_fault reading [] track = None
-epoch_fault reading (event ∷ rest) track = option_or (event_fault reading event track) (epoch_fault reading rest (after_event reading event track))
+epoch_fault reading (event ∷ rest) track =
+    option_or (event_fault reading event track) (epoch_fault reading rest (after_event reading event track))

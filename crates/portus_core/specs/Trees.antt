@@ -41,8 +41,10 @@ node_of = fold-Tree Node node_step
 abbrev pub nodes_of : List Tree → Nodes
 nodes_of trees = collected (map node_of trees)
 
-pub node_of-List : (place : Place) (parts : Vec Tree Global) → node_of (Group place parts) ≡ list place (nodes_of parts.items)
-node_of-List place parts = ap node_of (sym (rolls-List place parts)) ∙ fold-roll-Tree Node node_step (layer.List place parts)
+pub node_of-List : (place : Place) (parts : Vec Tree Global)
+    → node_of (Group place parts) ≡ list place (nodes_of parts.items)
+node_of-List place parts =
+    ap node_of (sym (rolls-List place parts)) ∙ fold-roll-Tree Node node_step (layer.List place parts)
 
 -- there are more than three parts
 abbrev pub IsMany : Nodes → Type 0

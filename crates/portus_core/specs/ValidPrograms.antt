@@ -86,17 +86,22 @@ is_next_local known (var.Local i) = (i == length known.locals) && nat_lt i most_
 is_next_local known _ = false
 
 abbrev pub is_action : KnownNames → Action → Bool
-is_action known (set v term) = (is_target known v && fits_target known v term) || (is_next_local known v && is_term known term)
-is_action known (set_if place v condition term) = is_target known v && is_condition known condition && fits_target known v term
-is_action known (set_unless place v condition term) = is_target known v && is_condition known condition && fits_target known v term
-is_action known (ewma place v weight term) = is_target known v && not (is_truth known v) && nat_le weight most_tenths && is_term known term
+is_action known (set v term) =
+    (is_target known v && fits_target known v term) || (is_next_local known v && is_term known term)
+is_action known (set_if place v condition term) =
+    is_target known v && is_condition known condition && fits_target known v term
+is_action known (set_unless place v condition term) =
+    is_target known v && is_condition known condition && fits_target known v term
+is_action known (ewma place v weight term) =
+    is_target known v && not (is_truth known v) && nat_le weight most_tenths && is_term known term
 is_action known zero_micros = true
 is_action known report = true
 is_action known fall = true
 
 -- the names with one more local, if there is one: whether it is a Bool
 abbrev pub with_known_local : KnownNames → Bool → Bool → KnownNames
-with_known_local known true is_bool = record { fields = known.fields; controls = known.controls; locals = known.locals ++ is_bool ∷ [] }
+with_known_local known true is_bool =
+    record { fields = known.fields; controls = known.controls; locals = known.locals ++ is_bool ∷ [] }
 with_known_local known false is_bool = known
 
 -- the names after the command

@@ -43,4 +43,5 @@ value_of (number n) env locals ack = Ok n
 value_of (truth b) env locals ack = Ok (bool_number b)
 value_of (name v) env locals ack = Ok (read_of v env locals ack)
 value_of (pair o place left right) env locals ack =
-    then_do (value_of left env locals ack) (λ a. then_do (value_of right env locals ack) (λ b. at_place place (apply o a b)))
+    then_do (value_of left env locals ack) (λ a.
+    then_do (value_of right env locals ack) (λ b. at_place place (apply o a b)))

@@ -30,9 +30,9 @@ is_name_shaped (c ∷ rest) = is_first c && list_all is_later rest
 -- a word that a form, a declaration or a command begins with
 abbrev pub is_heading : List ℕ → Bool
 is_heading w =
-    bytes_eq w (codes "def") || bytes_eq w (codes "when") || bytes_eq w (codes "Report") || bytes_eq w (codes "volatile")
-    || bytes_eq w (codes "if") || bytes_eq w (codes "ewma") || bytes_eq w (codes "report") || bytes_eq w (codes "fallthrough")
-    || bytes_eq w (codes "bind")
+    bytes_eq w (codes "def") || bytes_eq w (codes "when") || bytes_eq w (codes "Report")
+    || bytes_eq w (codes "volatile") || bytes_eq w (codes "if") || bytes_eq w (codes "ewma")
+    || bytes_eq w (codes "report") || bytes_eq w (codes "fallthrough") || bytes_eq w (codes "bind")
 
 abbrev pub is_constant : List ℕ → Bool
 is_constant w = bytes_eq w (codes "true") || bytes_eq w (codes "false") || bytes_eq w (codes "+infinity")

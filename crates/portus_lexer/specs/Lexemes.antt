@@ -44,7 +44,8 @@ abbrev pub token_of : Lexeme → Token
 token_of lexeme = record { place = lexeme.place; start = lexeme.start; end = lexeme.start + length lexeme.text }
 
 -- bytes begin with a blank text, or the rest of a comment and a blank text, and then this lexeme
-pub record BeginsWithLexeme (commented : Bool) (at : Place) (number : ℕ) (bytes : List ℕ) (lexeme : Lexeme) : Type 0 where
+pub record BeginsWithLexeme (commented : Bool) (at : Place) (number : ℕ) (bytes : List ℕ)
+    (lexeme : Lexeme) : Type 0 where
   pub gap : List ℕ
   pub others : List ℕ
   pub whole : bytes ≡ gap ++ (lexeme.text ++ others)

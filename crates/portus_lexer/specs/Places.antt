@@ -8,7 +8,8 @@ first_place = record { line = 1; column = 1 }
 
 -- the place after a byte: a line ends after LF
 abbrev pub place_past_byte : Place → ℕ → Place
-place_past_byte at b = if b == 10 then record { line = at.line + 1; column = 1 } else record { line = at.line; column = at.column + 1 }
+place_past_byte at b =
+    if b == 10 then record { line = at.line + 1; column = 1 } else record { line = at.line; column = at.column + 1 }
 
 -- the place after these bytes
 abbrev pub place_after : Place → List ℕ → Place

@@ -38,7 +38,8 @@ parenthesis at i b = if b == 40 || b == 41 then record { place = at; start = i; 
 abbrev pub put_by : Within → Place → ℕ → ℕ → List Token
 put_by Comment at i b = []
 put_by Gap at i b = if is_atom_byte b then [] else parenthesis at i b
-put_by (Atom place start) at i b = if is_atom_byte b then [] else open_atom_token (Atom place start) i ++ parenthesis at i b
+put_by (Atom place start) at i b =
+    if is_atom_byte b then [] else open_atom_token (Atom place start) i ++ parenthesis at i b
 
 abbrev pub with_front : List Token → Result (List Token) Place → Result (List Token) Place
 with_front front (Ok rest) = Ok (front ++ rest)

@@ -31,7 +31,8 @@ opened_at place reading =
 
 abbrev pub closed_over : Place → List Opened → List Node → Result OpenLists ParseFault
 closed_over place [] parts = Err (Unexpected place)
-closed_over place (opened ∷ opens) parts = Ok (record { opens = opens; parts = opened.before ++ list opened.place (collected parts) ∷ [] })
+closed_over place (opened ∷ opens) parts =
+    Ok (record { opens = opens; parts = opened.before ++ list opened.place (collected parts) ∷ [] })
 
 abbrev pub with_part : OpenLists → Result Node ParseFault → Result OpenLists ParseFault
 with_part reading (Ok node) = Ok (record { opens = reading.opens; parts = reading.parts ++ node ∷ [] })
@@ -46,7 +47,8 @@ abbrev pub reading_after : OpenLists → Place → List ℕ → Result OpenLists
 reading_after reading place text =
     if is_opening text
     then opened_at place reading
-    else (if is_closing text then closed_over place reading.opens reading.parts else put_in place text reading reading.opens)
+    else (if is_closing text then closed_over place reading.opens reading.parts
+    else put_in place text reading reading.opens)
 
 abbrev pub finished : List Opened → List Node → Result (List Node) ParseFault
 finished [] parts = Ok parts

@@ -19,7 +19,8 @@ is_closing text = bytes_eq text (codes ")")
 
 -- how many lists are open after a lexeme, from how many are open before it
 abbrev pub open_after : ℕ → List ℕ → ℕ
-open_after open_lists text = if is_opening text then open_lists + 1 else (if is_closing text then open_lists - 1 else open_lists)
+open_after open_lists text =
+    if is_opening text then open_lists + 1 else (if is_closing text then open_lists - 1 else open_lists)
 
 -- what is wrong with a lexeme inside this many open lists
 abbrev pub lexeme_fault : ℕ → Lexeme → Option ParseFault
@@ -40,13 +41,15 @@ first_fault open_lists (lexeme ∷ rest) =
 abbrev pub unopened : List Lexeme → ℕ
 unopened [] = 0
 unopened (lexeme ∷ rest) =
-    if is_opening lexeme.text then unopened rest - 1 else (if is_closing lexeme.text then unopened rest + 1 else unopened rest)
+    if is_opening lexeme.text then unopened rest - 1
+    else (if is_closing lexeme.text then unopened rest + 1 else unopened rest)
 
 -- the place of the last opening parenthesis that has no match
 abbrev pub last_unclosed : List Lexeme → Option Place
 last_unclosed [] = None
 last_unclosed (lexeme ∷ rest) =
-    option_or (last_unclosed rest) (if is_opening lexeme.text then (if unopened rest == 0 then Some lexeme.place else None) else None)
+    option_or (last_unclosed rest)
+    (if is_opening lexeme.text then (if unopened rest == 0 then Some lexeme.place else None) else None)
 
 -- the first lexeme that is wrong, or else the last list that is left open
 abbrev pub refusal_of : List Lexeme → Option ParseFault

@@ -33,7 +33,8 @@ abbrev mutual
   SpellsNode depth at part others (number place value) = SpellsAtom depth at part others (number place value)
   SpellsNode depth at part others (word place name) = SpellsAtom depth at part others (word place name)
   SpellsNode depth at part others (list place parts) =
-      (inner : List ℕ) × (IsListAround depth at part inner place × SpellsParts (depth + 1) (place_past_byte at 40) inner parts)
+      (inner : List ℕ)
+      × (IsListAround depth at part inner place × SpellsParts (depth + 1) (place_past_byte at 40) inner parts)
 
   -- bytes at a place, inside this many lists, spell the parts of a list
   pub SpellsParts : ℕ → Place → List ℕ → Nodes → Type 0

@@ -175,7 +175,8 @@ part_refusal sizes part index marks (instr ∷ rest) =
 abbrev pub event_refusal : Sizes → Event → ℕ → List Instr → Option Refusal
 event_refusal sizes event index instrs =
     part_refusal sizes Condition index no_marks (condition_of event instrs)
-    or_else part_refusal sizes Body (index + event.condition) (marks_after (condition_of event instrs) no_marks) (event_body event instrs)
+    or_else part_refusal sizes Body (index + event.condition) (marks_after (condition_of event instrs) no_marks)
+    (event_body event instrs)
 
 -- the first refusal among the instructions, which are those of the events
 abbrev pub instrs_refusal : Sizes → List Event → ℕ → List Instr → Option Refusal

@@ -47,7 +47,8 @@ keeping_text false = codes "fixed"
 -- a report field or a control variable, with its number and its start value
 abbrev pub start_line : List ℕ → ℕ → Start → List ℕ
 start_line class i start =
-    class ⧺ codes " " ⧺ decimal i ⧺ codes " " ⧺ keeping_text start.volatile ⧺ codes " " ⧺ decimal start.value ⧺ codes "\n"
+    class ⧺ codes " " ⧺ decimal i ⧺ codes " " ⧺ keeping_text start.volatile ⧺ codes " " ⧺ decimal start.value
+    ⧺ codes "\n"
 
 abbrev pub start_lines : List ℕ → ℕ → List Start → List ℕ
 start_lines class i [] = []

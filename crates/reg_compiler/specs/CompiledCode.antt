@@ -32,7 +32,8 @@ abbrev pub no_place : Place
 no_place = record { line = 1; column = 1 }
 
 abbrev pub code_line : Op → Reg → Reg → Reg → Place → Line
-code_line o to left right place = record { instr = record { op = o; to = to; left = left; right = right }; place = place }
+code_line o to left right place =
+    record { instr = record { op = o; to = to; left = left; right = right }; place = place }
 
 -- a register is given another one's value
 abbrev pub bind_line : Reg → Reg → Line
@@ -81,7 +82,8 @@ value_lines to (truth b) free = bind_line to (reg.Imm (bool_number b)) ∷ []
 value_lines to (name v) free = bind_line to (variable_reg v) ∷ []
 value_lines to (pair o place left right) free =
     unless_known (known_value (pair o place left right)) to
-    (operation_lines (op.Pair o) to place left (value_lines (reg.Temp free) left free) right (value_lines (reg.Temp (first_free_after left free)) right (first_free_after left free)) free)
+    (operation_lines (op.Pair o) to place left (value_lines (reg.Temp free) left free) right
+    (value_lines (reg.Temp (first_free_after left free)) right (first_free_after left free)) free)
 
 -- the lines that put an expression that is no operand yet into a temporary
 abbrev pub operand_lines : Term → ℕ → List Line

@@ -41,7 +41,8 @@ abbrev pub lean_of : Term → ℕ
 lean_of (number n) = 0
 lean_of (truth b) = 0
 lean_of (name v) = 0
-lean_of (pair op place left right) = lean_where (known_value (pair op place left right)) (1 + (lean_of left + lean_of right))
+lean_of (pair op place left right) =
+    lean_where (known_value (pair op place left right)) (1 + (lean_of left + lean_of right))
 
 abbrev pub action_lean : Action → ℕ
 action_lean (set v term) = max 1 (lean_of term)

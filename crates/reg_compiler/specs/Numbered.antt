@@ -22,8 +22,10 @@ is_numbered_term (pair op place left right) = is_numbered_term left && is_number
 
 abbrev pub is_numbered_action : Action → Bool
 is_numbered_action (set v term) = is_numbered v && is_numbered_term term
-is_numbered_action (set_if place v condition term) = is_numbered v && (is_numbered_term condition && is_numbered_term term)
-is_numbered_action (set_unless place v condition term) = is_numbered v && (is_numbered_term condition && is_numbered_term term)
+is_numbered_action (set_if place v condition term) =
+    is_numbered v && (is_numbered_term condition && is_numbered_term term)
+is_numbered_action (set_unless place v condition term) =
+    is_numbered v && (is_numbered_term condition && is_numbered_term term)
 is_numbered_action (ewma place v weight term) = is_numbered v && is_numbered_term term
 is_numbered_action zero_micros = true
 is_numbered_action report = true

@@ -15,11 +15,13 @@ use Rattle.reg_code.specs.CodeStep.{Kept, CodeOutcome, quiet, reported, held, fa
 
 -- the registers that hold an env: fields are reports, control variables are controls, number by number
 abbrev pub kept_of : Env → Kept
-kept_of env = record { reports = env.fields; controls = env.controls; cwnd = env.cwnd; rate = env.rate; zero = env.zero }
+kept_of env =
+    record { reports = env.fields; controls = env.controls; cwnd = env.cwnd; rate = env.rate; zero = env.zero }
 
 -- the env that registers hold
 abbrev pub env_of : Kept → Env
-env_of kept = record { fields = kept.reports; controls = kept.controls; cwnd = kept.cwnd; rate = kept.rate; zero = kept.zero }
+env_of kept =
+    record { fields = kept.reports; controls = kept.controls; cwnd = kept.cwnd; rate = kept.rate; zero = kept.zero }
 
 -- how the register of a declaration starts
 abbrev pub register_start : Decl → Start
@@ -43,7 +45,8 @@ seen places lost = None
 
 -- declared values and volatile flags agree
 abbrev pub StartsAlike : Form → Code → Type 0
-StartsAlike form code = (code.reports ≡ map register_start form.fields) × (code.controls ≡ map register_start form.controls)
+StartsAlike form code =
+    (code.reports ≡ map register_start form.fields) × (code.controls ≡ map register_start form.controls)
 
 -- an acknowledgement has the same result by the code as by the program: the outcome with its fields, or the fault with
 -- its place, and the env afterwards

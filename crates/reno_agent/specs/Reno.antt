@@ -96,7 +96,8 @@ after_loss r s =
 -- slow start ends if the window has reached the threshold (RFC 5681, section 3.1)
 abbrev pub in_slow_start : Measurement → RenoState → Replied
 in_slow_start r s =
-    if nat_le s.ssthresh r.cwnd then (record s { course = course_after Avoidance s.course }, change_to Avoidance s.course s.window s.ssthresh)
+    if nat_le s.ssthresh r.cwnd
+    then (record s { course = course_after Avoidance s.course }, change_to Avoidance s.course s.window s.ssthresh)
     else (s, Nothing)
 
 -- congestion avoidance: the window grows by about one segment in a round-trip time, and by at least one byte

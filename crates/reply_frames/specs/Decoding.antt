@@ -34,7 +34,8 @@ answer_of kinds.Change outline (Change program values) used = Ok (head_of outlin
 answer_of kind outline body used = Err (Other (kind_number kind))
 
 abbrev pub decoded_from : List ℕ → Read Frame → Result (ReplyHead × List Pair) FrameFault
-decoded_from bytes (Ok (frame, rest)) = answer_of frame.outline.kind frame.outline frame.body (length bytes - length rest)
+decoded_from bytes (Ok (frame, rest)) =
+    answer_of frame.outline.kind frame.outline frame.body (length bytes - length rest)
 decoded_from bytes (Err stop) = Err (frame_fault bytes stop)
 
 -- the head and the values of the Update or the Change at the front of the bytes, or why there is none

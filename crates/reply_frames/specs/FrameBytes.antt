@@ -22,7 +22,8 @@ counts_bytes counts = counts.n1 ∷ counts.n2 ∷ to_le_bytes w16 counts.n3 ++ t
 abbrev pub outline_bytes : Outline → List ℕ
 outline_bytes head =
     kind_number head.kind ∷ version_number head.version ∷
-    counts_bytes head.counts ++ (to_le_bytes w32 head.flow ++ to_le_bytes w32 (size_of head.kind head.version head.counts))
+    counts_bytes head.counts
+    ++ (to_le_bytes w32 head.flow ++ to_le_bytes w32 (size_of head.kind head.version head.counts))
 
 -- ---- the parts of bodies
 
@@ -95,7 +96,8 @@ body_counts (Refused reason index) = counts 0 0 0 0
 
 -- the head before a body
 abbrev pub outline_of : Version → ℕ → Body → Outline
-outline_of version flow body = record { kind = kind_of_body body; version = version; counts = body_counts body; flow = flow }
+outline_of version flow body =
+    record { kind = kind_of_body body; version = version; counts = body_counts body; flow = flow }
 
 -- the frame of a flow with this body
 abbrev pub spelled : Version → ℕ → Body → List ℕ
@@ -129,7 +131,10 @@ IsCount Two n = n < 2 ^ 64
 -- these counts are within the bounds of their kind
 abbrev pub AreCounts : FrameKind → Version → Counts → Type 0
 AreCounts kind version counts =
-    (counts.n1 ≤ most_n1 kind version) × (counts.n2 ≤ most_n2 kind) × (counts.n3 ≤ most_n3 kind) × (counts.n4 ≤ most_n4 kind)
+    (counts.n1 ≤ most_n1 kind version)
+    × (counts.n2 ≤ most_n2 kind)
+    × (counts.n3 ≤ most_n3 kind)
+    × (counts.n4 ≤ most_n4 kind)
 
 abbrev pub HasRanges : Version → Body → Type 0
 HasRanges version (Create cwnd mss) = (cwnd < 2 ^ 64) × (mss < 2 ^ 32)

@@ -108,7 +108,8 @@ value_at bytes = do
 pub data Body : Type 0 where
   Create : (cwnd mss : ℕ) → Body
   Measure : (program epoch first last now cwnd rate : ℕ) (fields : List ℕ) → Body
-  Install : (program : ℕ) (reports controls : List Start) (events : List EventLengths) (instructions : List Instruction) → Body
+  Install : (program : ℕ) (reports controls : List Start) (events : List EventLengths) (instructions : List Instruction)
+      → Body
   Update : (values : List Pair) → Body
   Change : (program : ℕ) (values : List Pair) → Body
   Fault : (program epoch place kind index now cwnd : ℕ) → Body

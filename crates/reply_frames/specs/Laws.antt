@@ -10,7 +10,12 @@ PrefixFree = (bytes more : List ℕ) → IsFrame bytes → IsFrame (bytes ++ mor
 
 -- a prefix of a frame that is as long as a head says how long the frame is
 abbrev pub Needed : Type 0
-Needed = (bytes more : List ℕ) → AreBytes (bytes ++ more) → IsFrame (bytes ++ more) → 16 ≤ length bytes → needed_of bytes ≡ length (bytes ++ more)
+Needed =
+    (bytes more : List ℕ)
+    → AreBytes (bytes ++ more)
+    → IsFrame (bytes ++ more)
+    → 16 ≤ length bytes
+    → needed_of bytes ≡ length (bytes ++ more)
 
 -- no frame is longer than that of the largest Install
 abbrev pub Longest : Type 0

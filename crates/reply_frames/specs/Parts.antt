@@ -33,7 +33,8 @@ byte_at field least most (byte ∷ rest) =
 -- a number of any value
 abbrev pub number_at : Width → List ℕ → Read ℕ
 number_at w bytes =
-    if nat_lt (length bytes) (byte_len w) then Err Cut else Ok (from_le_bytes w (take (byte_len w) bytes), drop (byte_len w) bytes)
+    if nat_lt (length bytes) (byte_len w) then Err Cut
+    else Ok (from_le_bytes w (take (byte_len w) bytes), drop (byte_len w) bytes)
 
 -- a number of `width` bytes that is at most `most`: a byte is bad if every completion is above `most`
 unfoldable pub limited_at : BadKind → ℕ → ℕ → List ℕ → Read ℕ

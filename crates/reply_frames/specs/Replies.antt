@@ -25,7 +25,8 @@ reply_bytes version flow (Some program) values = change_bytes version flow progr
 
 -- the head of the frame of version 1 with these values
 abbrev pub reply_head : ℕ → Option ℕ → List Pair → ReplyHead
-reply_head flow program values = record { flow = flow; program = program; version = One; used = length (reply_bytes One flow program values) }
+reply_head flow program values =
+    record { flow = flow; program = program; version = One; used = length (reply_bytes One flow program values) }
 
 -- these bytes begin with the frame of this head and these values
 pub record IsReply (bytes : List ℕ) (head : ReplyHead) (values : List Pair) : Type 0 where

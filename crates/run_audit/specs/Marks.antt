@@ -51,7 +51,8 @@ marks_in line = marks_if (number_by (codes "taken=") line) (number_by (codes "an
 -- those of all lines before the first one that begins with `end `
 abbrev pub marks_of_lines : List (List ℕ) → List Mark
 marks_of_lines [] = []
-marks_of_lines (line ∷ rest) = if starts_with nat_eq line (codes "end ") then [] else marks_in line ++ marks_of_lines rest
+marks_of_lines (line ∷ rest) =
+    if starts_with nat_eq line (codes "end ") then [] else marks_in line ++ marks_of_lines rest
 
 abbrev pub text_marks : List ℕ → List Mark
 text_marks text = marks_of_lines (parts_of LineFeed text)

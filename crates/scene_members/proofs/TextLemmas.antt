@@ -22,3 +22,6 @@ unless text true is h = absurd (h (IsUtf8-from_is_utf8 text is))
 
 pub value_of_no_text : (text : List ℕ) → (IsUtf8 text → ⊥) → value_of_bytes text ≡ Err Json
 value_of_no_text text h = unless text (is_utf8 text) refl h
+
+-- what a text says, in each case
+pub ruleset text_values = (value_read, value_unread, value_of_no_text)

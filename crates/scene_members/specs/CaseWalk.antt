@@ -46,7 +46,8 @@ trace_in place traces value = then_do (text_in place value) (λ name. of_kind pl
 
 abbrev pub case_trace : Table → ℕ → Data → Result (List ℕ) MemberFault
 case_trace traces i whole =
-    then_do (needed_member (In i key.Trace) (member_of key.Trace whole)) (λ value. trace_in (In i key.Trace) traces value)
+    then_do (needed_member (In i key.Trace) (member_of key.Trace whole)) (λ value.
+    trace_in (In i key.Trace) traces value)
 
 -- ---- numbers
 

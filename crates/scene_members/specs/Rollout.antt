@@ -84,7 +84,14 @@ open_members texts traces i whole =
     then_do (case_loss_plan i whole) (λ loss_plan.
     then_do (case_number i key.Cwnd whole) (λ cwnd.
     then_do (case_steps texts i whole) (λ steps.
-    Ok (record { name = name; trace = trace; link_numbers = link_numbers; loss_plan = loss_plan; cwnd = cwnd; steps = steps })))))))
+    Ok (record {
+      name = name;
+      trace = trace;
+      link_numbers = link_numbers;
+      loss_plan = loss_plan;
+      cwnd = cwnd;
+      steps = steps;
+    })))))))
 
 abbrev pub open_case_in : Texts → Table → ℕ → Data → Result OpenPlan MemberFault
 open_case_in texts traces i whole =

@@ -12,7 +12,8 @@ use Rattle.scene_members.specs.CaseWalk.{Table, trace_in}
 
 abbrev pub shared_trace : Table → Data → Result (List ℕ) MemberFault
 shared_trace traces value =
-    then_do (needed_member (Shared key.Trace) (member_of key.Trace value)) (λ name. trace_in (Shared key.Trace) traces name)
+    then_do (needed_member (Shared key.Trace) (member_of key.Trace value)) (λ name.
+    trace_in (Shared key.Trace) traces name)
 
 abbrev pub shared_number : Key → Data → Result ℕ MemberFault
 shared_number k value = needed_number (Shared k) k value

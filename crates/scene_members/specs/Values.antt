@@ -26,7 +26,8 @@ of_kind place None = Err (Wrong (path_of place))
 
 abbrev pub in_range : JsonPlace → Key → ℕ → Result ℕ MemberFault
 in_range place key number =
-    if nat_le (least_of key) number && nat_le number (greatest_value key) then Ok number else Err (Range (path_of place))
+    if nat_le (least_of key) number && nat_le number (greatest_value key) then Ok number
+    else Err (Range (path_of place))
 
 -- a whole number is one that the value has as a natural number or else as an integer; a negative one is out of range
 abbrev pub whole_number : JsonPlace → Key → Option ℕ → Option ℤ → Result ℕ MemberFault

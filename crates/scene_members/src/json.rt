@@ -25,7 +25,7 @@ fn json_value(alloc: Global, text: &str) -> Result<Value, MemberFault>
 }
 
 /// The value that a text is; bytes that are no text have none.
-#[tactic(auto, using(crate::proofs::TextLemmas::value_read, crate::proofs::TextLemmas::value_unread, crate::proofs::TextLemmas::value_of_no_text))]
+#[tactic(auto, using(crate::proofs::TextLemmas::text_values))]
 pub fn value_in(alloc: Global, text: &[u8]) -> Result<Value, MemberFault>
     ensures ok { IfOk result (λ v. value_of_bytes text.now ≡ Ok (view v)) }
     ensures err { IfErr result (λ e. e ≢ fault.NoMemory → value_of_bytes text.now ≡ Err e) }

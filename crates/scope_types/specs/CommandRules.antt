@@ -24,7 +24,8 @@ pub record IsPlain (scope : Scope) (v : Var) (wanted : Bool) (value : Node) (act
   pub command : action ≡ set v term
 
 -- the assignment of a value under a condition
-pub record IsChoice (scope : Scope) (wanted : Bool) (make : Term → Term → Action) (condition value : Node) (action : Action) : Type 0 where
+pub record IsChoice (scope : Scope) (wanted : Bool) (make : Term → Term → Action) (condition value : Node)
+    (action : Action) : Type 0 where
   pub condition_term : Term
   pub is_condition : IsTerm scope condition condition_term true
   pub term : Term
@@ -39,7 +40,8 @@ IsWeight (word at w) n = ⊥
 IsWeight (list at parts) n = ⊥
 
 -- the move of a number towards a value
-pub record IsEwma (scope : Scope) (v : Var) (wanted : Bool) (head : Place) (weight value : Node) (action : Action) : Type 0 where
+pub record IsEwma (scope : Scope) (v : Var) (wanted : Bool) (head : Place) (weight value : Node)
+    (action : Action) : Type 0 where
   pub number : IsFalse wanted
   pub tenths : ℕ
   pub is_weight : IsWeight weight tenths
@@ -70,7 +72,8 @@ pub record IsZeroAssignment (scope : Scope) (w : List ℕ) (value : Node) (actio
   pub command : action ≡ zero_micros
   pub names : after ≡ scope
 
-pub record IsKnownAssignment (scope : Scope) (w : List ℕ) (value : Node) (action : Action) (after : Scope) : Type 0 where
+pub record IsKnownAssignment (scope : Scope) (w : List ℕ) (value : Node) (action : Action)
+    (after : Scope) : Type 0 where
   pub variable : Var
   pub truth : Bool
   pub named : NamesVariable scope w (variable_of w) variable truth
@@ -86,7 +89,8 @@ pub record IsFresh (scope : Scope) (w : List ℕ) : Type 0 where
   pub unknown : (v : Var) (truth : Bool) → Means scope w v truth → ⊥
 
 -- the first assignment of the body's next local
-pub record IsFirstAssignment (scope : Scope) (w : List ℕ) (value : Node) (action : Action) (after : Scope) : Type 0 where
+pub record IsFirstAssignment (scope : Scope) (w : List ℕ) (value : Node) (action : Action)
+    (after : Scope) : Type 0 where
   pub fresh : IsFresh scope w
   pub term : Term
   pub truth : Bool
@@ -103,7 +107,8 @@ IsAssignment scope w value action after =
 -- a command, with the names before and after it
 abbrev pub IsCommand : Scope → Node → Action → Scope → Type 0
 IsCommand scope (list at (more (word head w) none)) action after =
-    ((w ≡ codes "report") × (action ≡ report) × (after ≡ scope)) ⊎ ((w ≡ codes "fallthrough") × (action ≡ fall) × (after ≡ scope))
+    ((w ≡ codes "report") × (action ≡ report) × (after ≡ scope))
+    ⊎ ((w ≡ codes "fallthrough") × (action ≡ fall) × (after ≡ scope))
 IsCommand scope (list at (more (word head w) (more (word target_at target) (more value none)))) action after =
     ((w ≡ codes ":=") ⊎ (w ≡ codes "bind")) × IsAssignment scope target value action after
 IsCommand scope node action after = ⊥

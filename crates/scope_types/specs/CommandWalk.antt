@@ -30,7 +30,8 @@ named_target_walk at w None = if is_field_use w || is_primitive_use w then Err (
 
 abbrev pub word_target_walk : Scope → Place → List ℕ → Option Var → Result Target ScopeFault
 word_target_walk names at w (Some v) = Ok (Known at v)
-word_target_walk names at w None = if is_reserved w then Err (fault.Misplaced at) else named_target_walk at w (meaning_of names w)
+word_target_walk names at w None =
+    if is_reserved w then Err (fault.Misplaced at) else named_target_walk at w (meaning_of names w)
 
 -- the target of an assignment: a variable, or a word without a meaning
 abbrev pub target_walk : Scope → Node → Result Target ScopeFault
@@ -103,7 +104,8 @@ set_walk names (Fresh at w) value_at term =
     else Ok (set (var.Local (length names.locals)) term, with_local_name names w (is_bool names term))
 
 abbrev pub plain_assignment_walk : Scope → Target → Node → Result Step ScopeFault
-plain_assignment_walk names target node = and_then (expression_walk names node) (λ term. set_walk names target (node_place node) term)
+plain_assignment_walk names target node =
+    and_then (expression_walk names node) (λ term. set_walk names target (node_place node) term)
 
 -- what is assigned: `if`, `!if`, `ewma` or an expression
 abbrev pub value_walk : Scope → Target → Node → Result Step ScopeFault

@@ -9,7 +9,8 @@ abbrev pub IsStart : Node → ℕ → Bool → Type 0
 IsStart (number at n) value truth = (value ≡ n) × (truth ≡ false)
 IsStart (word at w) value truth =
     ((w ≡ codes "true") × (value ≡ 1) × (truth ≡ true))
-    ⊎ (((w ≡ codes "false") × (value ≡ 0) × (truth ≡ true)) ⊎ ((w ≡ codes "+infinity") × (value ≡ 2 ^ 64 - 1) × (truth ≡ false)))
+    ⊎ (((w ≡ codes "false") × (value ≡ 0) × (truth ≡ true))
+    ⊎ ((w ≡ codes "+infinity") × (value ≡ 2 ^ 64 - 1) × (truth ≡ false)))
 IsStart (list at parts) value truth = ⊥
 
 pub record IsDeclarationOf (volatile : Bool) (w : List ℕ) (value : Node) (decl : Decl) : Type 0 where
@@ -20,7 +21,8 @@ pub record IsDeclarationOf (volatile : Bool) (w : List ℕ) (value : Node) (decl
 -- a word and a value, or `volatile`, a word and a value
 abbrev pub Declares : Node → Decl → Type 0
 Declares (list at (more (word word_at w) (more value none))) decl = IsDeclarationOf false w value decl
-Declares (list at (more (word head v) (more (word word_at w) (more value none)))) decl = (v ≡ codes "volatile") × IsDeclarationOf true w value decl
+Declares (list at (more (word head v) (more (word word_at w) (more value none)))) decl =
+    (v ≡ codes "volatile") × IsDeclarationOf true w value decl
 Declares node decl = ⊥
 
 -- the parts of the group of fields
@@ -56,4 +58,5 @@ AreParts (more node rest) grouped fields controls =
 
 -- no name is declared twice
 abbrev pub AreDistinct : List Decl → Type 0
-AreDistinct decls = (i j : ℕ) (d e : Decl) → slice_get decls i ≡ Some d → slice_get decls j ≡ Some e → d.name ≡ e.name → i ≡ j
+AreDistinct decls =
+    (i j : ℕ) (d e : Decl) → slice_get decls i ≡ Some d → slice_get decls j ≡ Some e → d.name ≡ e.name → i ≡ j

@@ -44,11 +44,15 @@ declared_start (list at parts) = None
 abbrev pub declares : Place → Bool → Place → List ℕ → Option Start → Result Declaration ScopeFault
 declares at volatile word_at w None = Err (Misplaced at)
 declares at volatile word_at w (Some start) =
-    Ok (record { at = word_at; decl = record { name = w; volatile = volatile; start = start.value; truth = start.truth } })
+    Ok (record {
+      at = word_at;
+      decl = record { name = w; volatile = volatile; start = start.value; truth = start.truth };
+    })
 
 -- a word and a value, or `volatile`, a word and a value
 abbrev pub declaration_walk : Node → Result Declaration ScopeFault
-declaration_walk (list at (more (word word_at w) (more value none))) = declares at false word_at w (declared_start value)
+declaration_walk (list at (more (word word_at w) (more value none))) =
+    declares at false word_at w (declared_start value)
 declaration_walk (list at (more (word head v) (more (word word_at w) (more value none)))) =
     if bytes_eq v (codes "volatile") then declares at true word_at w (declared_start value) else Err (Misplaced at)
 declaration_walk node = Err (Misplaced (node_place node))

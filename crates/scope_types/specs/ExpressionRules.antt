@@ -67,7 +67,8 @@ IsWord scope w (Some constant) t truth = (t ≡ constant) × (truth ≡ constant
 IsWord scope w None t truth = IsName scope w t truth
 
 -- an operation on two parts; it is a Bool if its operator gives one
-pub record IsPair (op : Option Op2) (head : Place) (Left Right : Term → Bool → Type 0) (t : Term) (truth : Bool) : Type 0 where
+pub record IsPair (op : Option Op2) (head : Place) (Left Right : Term → Bool → Type 0) (t : Term)
+    (truth : Bool) : Type 0 where
   pub operator : Op2
   pub spelt : op ≡ Some operator
   pub left : Term

@@ -26,13 +26,15 @@ name_walk (Err e) = Err e
 -- the variable that a word names
 abbrev pub variable_walk : Scope → Place → List ℕ → Option Var → Result Var ScopeFault
 variable_walk names at w (Some v) = Ok v
-variable_walk names at w None = if is_reserved w then Err (Misplaced at) else or_refused (meaning_of names w) (Unknown at)
+variable_walk names at w None =
+    if is_reserved w then Err (Misplaced at) else or_refused (meaning_of names w) (Unknown at)
 
 abbrev pub word_walk : Scope → Place → List ℕ → Option Term → Result Term ScopeFault
 word_walk names at w (Some term) = Ok term
 word_walk names at w None = name_walk (variable_walk names at w (variable_of w))
 
-abbrev pub pair_walk : Place → Place → Option Op2 → Result Term ScopeFault → Result Term ScopeFault → Result Term ScopeFault
+abbrev pub pair_walk : Place → Place → Option Op2 → Result Term ScopeFault → Result Term ScopeFault
+    → Result Term ScopeFault
 pair_walk at head None left right = Err (Misplaced at)
 pair_walk at head (Some op) (Err e) right = Err e
 pair_walk at head (Some op) (Ok left) (Err e) = Err e

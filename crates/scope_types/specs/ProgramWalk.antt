@@ -36,7 +36,8 @@ condition_walk names node =
 -- a block that begins with these names: its condition, then its commands
 abbrev pub inner_walk : Scope → Node → Nodes → Result (Part × Scope) ScopeFault
 inner_walk names condition commands =
-    and_then (condition_walk names condition) (λ c. and_then (body_walk names [] commands) (λ body. Ok (walked_part c body, body.1)))
+    and_then (condition_walk names condition) (λ c.
+    and_then (body_walk names [] commands) (λ body. Ok (walked_part c body, body.1)))
 
 -- a block, with the names after it
 abbrev pub block_walk : Scope → Place → Nodes → Result (Part × Scope) ScopeFault

@@ -16,7 +16,8 @@ scope_of names = record { fields = names.fields; controls = names.controls; loca
 
 -- the names without their texts
 abbrev pub known_in : Scope → KnownNames
-known_in names = record { fields = names.fields; controls = names.controls; locals = map (λ (l : Local). l.truth) names.locals }
+known_in names =
+    record { fields = names.fields; controls = names.controls; locals = map (λ (l : Local). l.truth) names.locals }
 
 -- the names with one more local
 abbrev pub with_local_name : Scope → List ℕ → Bool → Scope

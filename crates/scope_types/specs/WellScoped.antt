@@ -20,7 +20,8 @@ pub record IsBlock (names : Scope) (condition : Node) (commands : Nodes) (part :
   pub locals : part.locals ≡ length after.locals
 
 abbrev pub IsWhen : Scope → Node → Part → Type 0
-IsWhen names (list at (more (word head w) (more condition commands))) part = (w ≡ codes "when") × IsBlock names condition commands part
+IsWhen names (list at (more (word head w) (more condition commands))) part =
+    (w ≡ codes "when") × IsBlock names condition commands part
 IsWhen names node part = ⊥
 
 abbrev pub AreBlocks : Scope → Nodes → List Part → Type 0

@@ -45,7 +45,8 @@ link_state case rounds next flows = record {
 abbrev pub span : ℕ
 span = (most_queue + 1) * longest_period + 1
 
--- all times are at most this, in microseconds: the latest round's time, how long after it a chance may come, and a delay
+-- all times are at most this, in microseconds: the latest round's time, how long after it a chance may come, and a
+-- delay
 abbrev pub horizon : ℕ
 horizon = most_rounds * most_quantum_us + span + most_delay_us
 
@@ -81,7 +82,8 @@ fate_now times link room sent sending =
 
 -- the fate of a packet that gets the queue's next chance
 abbrev pub served_now : List ℕ → FlowLink → Sending → Fate
-served_now times link sending = Served (chance_number times sending.queue.next) (is_marked link.mark sending.queue.waiting)
+served_now times link sending =
+    Served (chance_number times sending.queue.next) (is_marked link.mark sending.queue.waiting)
 
 -- the next chance is the one past the packet that is sent next
 abbrev pub IsNextChance : List ℕ → FlowLink → ℕ → ℕ → Sending → Sending → Type 0
@@ -95,7 +97,8 @@ pub record IsSending (times : List ℕ) (sending : Sending) : Type 0 where
   pub now : sending.now ≤ most_rounds * most_quantum_us
   pub next_place : sending.next.place < length times
   pub place : sending.queue.next.place < length times
-  pub next : chance_number times sending.queue.next ≡ max (chance_number times sending.next) (first_chance times sending.now 0)
+  pub next : chance_number times sending.queue.next
+      ≡ max (chance_number times sending.next) (first_chance times sending.now 0)
   pub waiting : sending.queue.waiting ≡ chance_number times sending.next - first_chance times (sending.now + 1) 0
   pub late : chance_time times (chance_number times sending.next) ≤ sending.now + span
 
@@ -180,7 +183,8 @@ FlowsFollow case flows sent givens =
     ≡ flow_standing case.trace (flow_link_at case flow) (own_packets flow sent) (givens flow)
 
 -- the sending of a round after these packets and acknowledgements
-pub record Follows (case : SharedCase) (flows : List FlowTraffic) (sending : Sending) (sent : List Sent) (givens : ℕ → List GivenAck) : Type 0 where
+pub record Follows (case : SharedCase) (flows : List FlowTraffic) (sending : Sending) (sent : List Sent)
+    (givens : ℕ → List GivenAck) : Type 0 where
   pub settled : Settled case sending.now sent givens
   pub chance : chance_number case.trace sending.next ≡ chances_past (every_packet sent)
   pub traffic : FlowsFollow case flows sent givens
@@ -201,8 +205,8 @@ pub record AreReady (case : SharedCase) (rounds : ℕ) (flows : List FlowTraffic
 abbrev pub most_answers : SharedCase → List Ask → ℕ → FlowTraffic → ℕ
 most_answers case asks flow traffic = min (ask_at asks flow).left (max traffic.in_flight (allowed case asks flow))
 
--- a flow with this traffic has begun a round: it keeps how many packets it may have in flight, and there is room for its
--- acknowledgements
+-- a flow with this traffic has begun a round: it keeps how many packets it may have in flight, and there is room for
+-- its acknowledgements
 pub record IsPrepared (case : SharedCase) (asks : List Ask) (flow : ℕ) (traffic : FlowTraffic) : Type 0 where
   pub allowance : traffic.allowance ≡ allowed case asks flow
   pub room : most_answers case asks flow traffic ≤ vec_capacity traffic.acks
@@ -212,9 +216,10 @@ abbrev pub ArePrepared : SharedCase → List Ask → ℕ → List FlowTraffic �
 ArePrepared case asks first flows =
     (flow : ℕ) (other : FlowTraffic) → flow < first → IsPrepared case asks flow (get_or flows flow other)
 
--- some turns of a round's sending were made: from the packets sent so far, `left` more turns lead to the same packets as
--- all turns do from `sent`
-pub record TurnsMade (case : SharedCase) (asks : List Ask) (flows : List FlowTraffic) (sending : Sending) (left : ℕ) (sent : List Sent) (givens : ℕ → List GivenAck) : Type 0 where
+-- some turns of a round's sending were made: from the packets sent so far, `left` more turns lead to the same packets
+-- as all turns do from `sent`
+pub record TurnsMade (case : SharedCase) (asks : List Ask) (flows : List FlowTraffic) (sending : Sending) (left : ℕ)
+    (sent : List Sent) (givens : ℕ → List GivenAck) : Type 0 where
   pub so_far : List Sent
   pub follows : Follows case flows sending so_far givens
   pub rest : turns_of case sending.now (allowed case asks) givens left so_far
@@ -226,7 +231,8 @@ acks_before case asks end sent givens flow =
     answers case.trace (flow_link_at case flow) end (own_packets flow sent) (ask_at asks flow).left (givens flow)
 
 -- the first `first` flows have their acknowledgements of the round
-pub record AnsweredTo (case : SharedCase) (asks : List Ask) (end : ℕ) (flows : List FlowTraffic) (answers : List (List Ack)) (first : ℕ) (sent : List Sent) (givens : ℕ → List GivenAck) : Type 0 where
+pub record AnsweredTo (case : SharedCase) (asks : List Ask) (end : ℕ) (flows : List FlowTraffic)
+    (answers : List (List Ack)) (first : ℕ) (sent : List Sent) (givens : ℕ → List GivenAck) : Type 0 where
   pub acks : answers ≡ each_flow first (λ flow. acks_of_givens (acks_before case asks end sent givens flow))
   pub done : (flow : ℕ) (other : FlowTraffic) → flow < first
       → flow_under_way (get_or flows flow other)

@@ -37,7 +37,8 @@ TellsCounts case rounds flows counts =
 
 -- the flows send more: if the link had these packets and acknowledgements before, it has the packets that `more` gives
 -- afterwards
-abbrev pub SendsOn : SharedCase → Flows → Sending → Flows → Sending → ((ℕ → List GivenAck) → List Sent → List Sent) → Type 0
+abbrev pub SendsOn : SharedCase → Flows → Sending → Flows → Sending → ((ℕ → List GivenAck) → List Sent → List Sent)
+    → Type 0
 SendsOn case old from new to more =
     (sent : List Sent) (givens : ℕ → List GivenAck) → Follows case old.traffic.items from sent givens
     → Follows case new.traffic.items to (more givens sent) givens
@@ -51,7 +52,8 @@ SendsOne case asks flow old from new to =
 -- all flows take a turn
 abbrev pub SendsTurn : SharedCase → List Ask → Flows → Sending → Flows → Sending → Type 0
 SendsTurn case asks old from new to =
-    SendsOn case old from new to (λ givens sent. sending_turn case from.now (allowed case asks) givens (length case.flows) sent)
+    SendsOn case old from new to
+    (λ givens sent. sending_turn case from.now (allowed case asks) givens (length case.flows) sent)
 
 -- all flows take all turns of a round
 abbrev pub SendsAll : SharedCase → List Ask → Flows → Sending → Flows → Sending → Type 0

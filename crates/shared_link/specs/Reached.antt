@@ -41,5 +41,6 @@ pub record Settled (case : SharedCase) (now : ℕ) (sent : List Sent) (givens : 
   pub queued : IsQueued case.trace now (every_packet sent)
   pub once : RiseBelow (chances_past (every_packet sent)) (served_chances (every_packet sent))
   pub flows : (flow : ℕ)
-      → FlowSettled case.trace (flow_link_at case flow).delay_us (chances_past (every_packet sent)) (own_packets flow sent)
+      → FlowSettled case.trace (flow_link_at case flow).delay_us (chances_past (every_packet sent))
+      (own_packets flow sent)
       (givens flow)

@@ -62,7 +62,8 @@ allowed case asks flow =
 abbrev pub packet_after : SharedCase → ℕ → ℕ → List Sent → Packet
 packet_after case now flow sent = record {
   sent_at = now;
-  fate = fate_of (flow_link_at case flow).losses case.queue (flow_link_at case flow).mark (length (own_packets flow sent))
+  fate =
+      fate_of (flow_link_at case flow).losses case.queue (flow_link_at case flow).mark (length (own_packets flow sent))
       (waiting case.trace now (every_packet sent)) (first_chance case.trace now (chances_past (every_packet sent)));
 }
 
@@ -98,8 +99,8 @@ turns_of case now may givens (suc turns) sent =
 abbrev pub round_time : SharedCase → ℕ → ℕ
 round_time case rounds = rounds * case.quantum_us
 
--- the packets after the sending of one more round: the 4,096 turns are always enough, since afterwards no flow has fewer
--- packets in flight than it may have, by the law `SharedCase::sending_law`
+-- the packets after the sending of one more round: the 4,096 turns are always enough, since afterwards no flow has
+-- fewer packets in flight than it may have, by the law `SharedCase::sending_law`
 abbrev pub sent_by : SharedCase → List Ask → SharedLinkRun → List Sent
 sent_by case asks run = turns_of case (round_time case run.rounds) (allowed case asks) run.givens most_flight run.sent
 
@@ -126,7 +127,8 @@ abbrev pub arrival_given : List ℕ → FlowLink → List Packet → List GivenA
 arrival_given times link packets givens flight number sent_at chance marked = record {
   taking = packet_and_lost_below number;
   ack = arrival_ack_of link.mss sent_at (chance_time times chance + link.delay_us) marked (past_of givens)
-      (lost_by (packet_and_lost_below number) flight) (length (left_by (packet_and_lost_below number) flight)) (acked_of givens + 1)
+      (lost_by (packet_and_lost_below number) flight) (length (left_by (packet_and_lost_below number) flight))
+      (acked_of givens + 1)
       (length packets);
 }
 
@@ -142,8 +144,8 @@ timeout_given link packets givens flight now = record {
       (length (left_by (all_below (length packets)) flight)) (acked_of givens) (length packets);
 }
 
--- when a flow times out: `timeout_us` after its last acknowledgement or after the sending of its lowest packet in flight,
--- whichever is later
+-- when a flow times out: `timeout_us` after its last acknowledgement or after the sending of its lowest packet in
+-- flight, whichever is later
 abbrev pub timeout_at : FlowLink → List GivenAck → Packet → ℕ
 timeout_at link givens first = max (time_of givens) first.sent_at + link.timeout_us
 
@@ -157,13 +159,14 @@ timeouts link end packets givens (first ∷ rest) =
 
 -- the acknowledgements from the next packet that arrives on: that packet's and those after it, or the timeout if no
 -- packet arrives
-abbrev pub answers_after : List ℕ → FlowLink → ℕ → List Packet → List GivenAck → List Numbered → Next → (GivenAck → List GivenAck) → List GivenAck
+abbrev pub answers_after : List ℕ → FlowLink → ℕ → List Packet → List GivenAck → List Numbered → Next
+    → (GivenAck → List GivenAck) → List GivenAck
 answers_after times link end packets givens flight (arrives number sent_at chance marked) then_ =
     then_ (arrival_given times link packets givens flight number sent_at chance marked)
 answers_after times link end packets givens flight all_lost then_ = timeouts link end packets givens flight
 
--- the acknowledgements of a flow before the time `end`, in order: those of the packets that arrive, and then, if the flow
--- has one left, that of its timeout. The flow has `left` acknowledgements left, and gets at most as many.
+-- the acknowledgements of a flow before the time `end`, in order: those of the packets that arrive, and then, if the
+-- flow has one left, that of its timeout. The flow has `left` acknowledgements left, and gets at most as many.
 abbrev pub answers : List ℕ → FlowLink → ℕ → List Packet → ℕ → List GivenAck → List GivenAck
 answers times link end packets zero givens = []
 answers times link end packets (suc left) givens =
@@ -216,7 +219,9 @@ each_flow (suc flow) acks = each_flow flow acks ++ acks flow ∷ []
 abbrev pub acks_after : SharedCase → List (List Ask) → List Ask → List (List Ack)
 acks_after case rounds asks =
     each_flow (length case.flows)
-    (λ flow. acks_of_givens (round_givens case asks (shared_run_of case rounds) (sent_by case asks (shared_run_of case rounds)) flow))
+    (λ flow.
+    acks_of_givens
+    (round_givens case asks (shared_run_of case rounds) (sent_by case asks (shared_run_of case rounds)) flow))
 
 -- ---- counts
 

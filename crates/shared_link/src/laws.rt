@@ -19,7 +19,8 @@ impl SharedCase {
     /// What holds after every list of rounds and the sending of one more, whatever the flows ask for: no flow has fewer
     /// packets in flight than it may have. So the 4,096 turns of the definition are always enough.
     pub fn sending_law(&self)
-        ensures { (rounds : List (List Ask)) (asks : List Ask) → NoneLacks self.now asks (shared_run_of self.now rounds) }
+        ensures { (rounds : List (List Ask)) (asks : List Ask)
+            → NoneLacks self.now asks (shared_run_of self.now rounds) }
     {
         let _ = self.trace.as_slice();
     }

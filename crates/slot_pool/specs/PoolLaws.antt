@@ -18,20 +18,26 @@ module _ (m : map.FinMap nat_cmp (List ℕ)) (slot : ℕ) where
   -- what a map has after an insert and after a removal
   pub get-insert_same : (words : List ℕ) → map.get (map.insert m slot words) slot ≡ Some words
   get-insert_same words =
-      map.get-insert nat_cmp_total m slot words slot ∙ ap (λ b. cond b (Some words) (map.get m slot)) (tied slot slot refl)
+      map.get-insert nat_cmp_total m slot words slot
+      ∙ ap (λ b. cond b (Some words) (map.get m slot)) (tied slot slot refl)
 
-  pub get-insert_other : (words : List ℕ) (other : ℕ) → other ≢ slot → map.get (map.insert m slot words) other ≡ map.get m other
+  pub get-insert_other : (words : List ℕ) (other : ℕ)
+      → other ≢ slot → map.get (map.insert m slot words) other ≡ map.get m other
   get-insert_other words other n =
-      map.get-insert nat_cmp_total m slot words other ∙ ap (λ b. cond b (Some words) (map.get m other)) (untied other slot n)
+      map.get-insert nat_cmp_total m slot words other
+      ∙ ap (λ b. cond b (Some words) (map.get m other)) (untied other slot n)
 
   pub get-remove_same : map.get (map.remove m slot) slot ≡ None
-  get-remove_same = map.get-remove nat_cmp_total m slot slot ∙ ap (λ b. cond b None (map.get m slot)) (tied slot slot refl)
+  get-remove_same =
+      map.get-remove nat_cmp_total m slot slot ∙ ap (λ b. cond b None (map.get m slot)) (tied slot slot refl)
 
   pub get-remove_other : (other : ℕ) → other ≢ slot → map.get (map.remove m slot) other ≡ map.get m other
-  get-remove_other other n = map.get-remove nat_cmp_total m slot other ∙ ap (λ b. cond b None (map.get m other)) (untied other slot n)
+  get-remove_other other n =
+      map.get-remove nat_cmp_total m slot other ∙ ap (λ b. cond b None (map.get m other)) (untied other slot n)
 
 -- two maps with the same words at a slot, and at all others, are equal
-pub same_out : (m n : map.FinMap nat_cmp (List ℕ)) (slot : ℕ) → map.get m slot ≡ map.get n slot → ((other : ℕ) → other ≢ slot → map.get m other ≡ map.get n other) → m ≡ n
+pub same_out : (m n : map.FinMap nat_cmp (List ℕ)) (slot : ℕ)
+    → map.get m slot ≡ map.get n slot → ((other : ℕ) → other ≢ slot → map.get m other ≡ map.get n other) → m ≡ n
 same_out m n slot at others =
     map.same_map nat_cmp_total nat_cmp-IsAntisymmetric m n (λ q. elim (cases_eq q slot) [
       | inl e ↦ ap (map.get m) e ∙ at ∙ ap (map.get n) (sym e)
@@ -39,7 +45,8 @@ same_out m n slot at others =
     ])
 
 -- the map after a change of one slot
-pub out_with : (old new : PoolState) (slot : ℕ) (words : List ℕ) → ChangesSlot old new slot (Some words) → new.out ≡ map.insert old.out slot words
+pub out_with : (old new : PoolState) (slot : ℕ) (words : List ℕ)
+    → ChangesSlot old new slot (Some words) → new.out ≡ map.insert old.out slot words
 out_with old new slot words c =
     same_out new.out (map.insert old.out slot words) slot (c.changed ∙ sym (get-insert_same old.out slot words))
     (λ other n. c.others other n ∙ sym (get-insert_other old.out slot words other n))
@@ -54,25 +61,29 @@ pub some_len : (m : map.FinMap nat_cmp (List ℕ)) (slot : ℕ) → is_some (map
 some_len m slot here =
     elim (cases_eq (map.len m) 0) [
       | inl none ↦
-          let e : map.get m slot ≡ None = ap (λ n. map.get n slot) (map.empty_of_len m none) ∙ map.get-empty nat_cmp slot in
+          let e : map.get m slot ≡ None =
+          ap (λ n. map.get n slot) (map.empty_of_len m none) ∙ map.get-empty nat_cmp slot in
           absurd (true≢false (sym here ∙ ap is_some e))
       | inr some ↦ omega arith
     ]
 
 -- how many slots are out after one is taken, is written, or is given back
-pub len-taken : (old new : PoolState) (slot : ℕ) (words : List ℕ) → words_at old slot ≡ None → ChangesSlot old new slot (Some words) → map.len new.out ≡ map.len old.out + 1
+pub len-taken : (old new : PoolState) (slot : ℕ) (words : List ℕ)
+    → words_at old slot ≡ None → ChangesSlot old new slot (Some words) → map.len new.out ≡ map.len old.out + 1
 len-taken old new slot words free c =
     ap map.len (out_with old new slot words c)
     ∙ map.len-insert nat_cmp_total old.out slot words
     ∙ ap (λ o. cond (is_some o) (map.len old.out) (map.len old.out + 1)) free
 
-pub len-written : (old new : PoolState) (slot : ℕ) (words : List ℕ) → IsOut old slot → ChangesSlot old new slot (Some words) → map.len new.out ≡ map.len old.out
+pub len-written : (old new : PoolState) (slot : ℕ) (words : List ℕ)
+    → IsOut old slot → ChangesSlot old new slot (Some words) → map.len new.out ≡ map.len old.out
 len-written old new slot words out c =
     ap map.len (out_with old new slot words c)
     ∙ map.len-insert nat_cmp_total old.out slot words
     ∙ ap (λ b. cond b (map.len old.out) (map.len old.out + 1)) out
 
-pub len-given : (old new : PoolState) (slot : ℕ) → IsOut old slot → ChangesSlot old new slot None → map.len new.out + 1 ≡ map.len old.out
+pub len-given : (old new : PoolState) (slot : ℕ)
+    → IsOut old slot → ChangesSlot old new slot None → map.len new.out + 1 ≡ map.len old.out
 len-given old new slot out c =
     let some = some_len old.out slot out in
     let less : map.len new.out ≡ map.len old.out - 1 =
@@ -82,7 +93,8 @@ len-given old new slot out c =
     omega arith
 
 -- a slot that is out stays out when another one changes
-pub IsOut-kept : (old new : PoolState) (slot other : ℕ) (held : Option (List ℕ)) → ChangesSlot old new slot held → other ≢ slot → IsOut old other → IsOut new other
+pub IsOut-kept : (old new : PoolState) (slot other : ℕ) (held : Option (List ℕ))
+    → ChangesSlot old new slot held → other ≢ slot → IsOut old other → IsOut new other
 IsOut-kept old new slot other held c apart out = ap is_some (c.others other apart) ∙ out
 
 -- a slot that is free is none that is out

@@ -30,8 +30,8 @@ is_passed_well point.InCase held flow = is_free held
 is_passed_well point.AfterCase held flow = is_free held
 
 -- if this lock is held first, a lock is taken while none is held, and given back by its holder. A flow is asked, a
--- ticket is taken and settled, and an entry is installed and changed to under the flow's lock; a nudge is sent, a number
--- received and a text built while none is held. At the end none is
+-- ticket is taken and settled, and an entry is installed and changed to under the flow's lock; a nudge is sent, a
+-- number received and a text built while none is held. At the end none is
 abbrev pub keeps_locks : Option ℕ → List Event → Bool
 keeps_locks held [] = is_free held
 keeps_locks held (event.Locked flow ∷ events) = is_free held && keeps_locks (Some flow) events

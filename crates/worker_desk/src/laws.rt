@@ -18,9 +18,9 @@ pub fn equipping_law()
 {}
 
 /// What each kind of worker did, whatever the answers were: it holds one lock at a time, does what it does to a flow
-/// under the flow's lock and passes `InAck` there, holds none when it passes another point, sends or receives a number or
-/// builds a text, and gives each lock back. A text counts here if its entry is taken; `InstallDesk::take_entry` requires
-/// that nothing was done since its source was given.
+/// under the flow's lock and passes `InAck` there, holds none when it passes another point, sends or receives a number
+/// or builds a text, and gives each lock back. A text counts here if its entry is taken; `InstallDesk::take_entry`
+/// requires that nothing was done since its source was given.
 pub fn locks_law()
     ensures serving { ServingKeepsLocks }
     ensures attending { AttendingKeepsLocks }
