@@ -23,8 +23,10 @@ with_local locals i value j = if j == i then Some value else locals j
 
 -- an assignment
 abbrev pub with_written : Var → ℕ → Going → Going
-with_written (var.Field i) value going = record going { env = record going.env { fields = slice_set going.env.fields i value } }
-with_written (var.Control i) value going = record going { env = record going.env { controls = slice_set going.env.controls i value } }
+with_written (var.Field i) value going =
+    record going { env = record going.env { fields = slice_set going.env.fields i value } }
+with_written (var.Control i) value going =
+    record going { env = record going.env { controls = slice_set going.env.controls i value } }
 with_written (var.Local i) value going = record going { locals = with_local going.locals i value }
 with_written var.Cwnd value going = record going { env = record going.env { cwnd = value } }
 with_written var.Rate value going = record going { env = record going.env { rate = value } }
@@ -42,12 +44,15 @@ value_in term ack going = value_of term going.env going.locals ack
 abbrev pub command_of : Action → Ack → Going → Result Going Cause
 command_of (set v term) ack going = then_do (value_in term ack going) (λ value. Ok (with_written v value going))
 command_of (set_if place v condition term) ack going =
-    then_do (value_in condition ack going) (λ held. then_do (value_in term ack going) (λ value. Ok (written_where (is_true held) v value going)))
+    then_do (value_in condition ack going) (λ held.
+    then_do (value_in term ack going) (λ value. Ok (written_where (is_true held) v value going)))
 command_of (set_unless place v condition term) ack going =
-    then_do (value_in condition ack going) (λ held. then_do (value_in term ack going) (λ value. Ok (written_where (not (is_true held)) v value going)))
+    then_do (value_in condition ack going) (λ held.
+    then_do (value_in term ack going) (λ value. Ok (written_where (not (is_true held)) v value going)))
 command_of (ewma place v weight term) ack going =
     then_do (value_in term ack going) (λ value.
-    then_do (at_place place (moving_average weight (read_of v going.env going.locals ack) value)) (λ mixed. Ok (with_written v mixed going)))
+    then_do (at_place place (moving_average weight (read_of v going.env going.locals ack) value)) (λ mixed.
+    Ok (with_written v mixed going)))
 command_of zero_micros ack going = Ok (record going { env = record going.env { zero = ack.now } })
 command_of report ack going = Ok (record going { asked = true })
 command_of fall ack going = Ok (record going { falls = true })

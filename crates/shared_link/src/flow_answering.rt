@@ -98,8 +98,8 @@ impl FlowTraffic {
         }
     }
 
-    /// Gives the next acknowledgement before `end`, in microseconds, if there is one; `left` are left. Answers whether a
-    /// packet arrived: if not, no more acknowledgements follow.
+    /// Gives the next acknowledgement before `end`, in microseconds, if there is one; `left` are left. Answers whether
+    /// a packet arrived: if not, no more acknowledgements follow.
     fn answer_one(&mut self, link: &FlowLink, end: u64, left: u32) -> bool
         requires link { IsFlowWithin link.now }
         requires kept { IsFlowKept link.now self.old }

@@ -134,8 +134,8 @@ impl FlowTraffic {
     }
 }
 
-/// When the first of the lost packets was sent, after one more is lost at `now`: before it there were `lost`, the first of
-/// which was sent at `since`.
+/// When the first of the lost packets was sent, after one more is lost at `now`: before it there were `lost`, the first
+/// of which was sent at `since`.
 fn first_since(lost: u64, since: u64, now: u64) -> u64
     ensures { result ≡ (if lost == 0 then now else since) }
 {

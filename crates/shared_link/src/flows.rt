@@ -62,7 +62,8 @@ impl Flows {
         requires prepared { ArePrepared case.now asks.now (length self.now.traffic.items) self.now.traffic.items }
         requires flow { flow < length self.now.traffic.items }
         ensures below { IsTrue result → (other : FlowTraffic)
-            → (get_or self.now.traffic.items flow other).in_flight < (get_or self.now.traffic.items flow other).allowance }
+            → (get_or self.now.traffic.items flow other).in_flight
+            < (get_or self.now.traffic.items flow other).allowance }
         ensures lacks { TellsLack case.now asks.now self.now flow result }
     {
         // for the contract alone: what holds of the flows depends on the case, what they ask for and the rounds so far
@@ -103,8 +104,8 @@ impl Flows {
         true
     }
 
-    /// Each flow in turn sends a packet if it has fewer in flight than it may have. Answers whether some flow sent one: if
-    /// not, none has fewer.
+    /// Each flow in turn sends a packet if it has fewer in flight than it may have. Answers whether some flow sent one:
+    /// if not, none has fewer.
     fn send_turn(&mut self, case: &SharedCase, asks: &[Ask], sending: &mut Sending) -> bool
         requires case { IsWithin case.now }
         requires ready { AreReady case.now sending.old.rounds self.old.traffic.items }
@@ -165,8 +166,8 @@ impl Flows {
         Ok(Flows { traffic })
     }
 
-    /// Begins a round: sets how many packets each flow may have in flight, and reserves memory for them and for the most
-    /// acknowledgements that it can get.
+    /// Begins a round: sets how many packets each flow may have in flight, and reserves memory for them and for the
+    /// most acknowledgements that it can get.
     pub(crate) fn make_rooms(
         &mut self,
         alloc: Global,
@@ -178,7 +179,8 @@ impl Flows {
         requires ready { AreReady case.now rounds self.old.traffic.items }
         requires asks { length asks.now ≡ length case.now.flows }
         ensures ready { AreReady case.now rounds self.new.traffic.items }
-        ensures prepared { OnOk result (ArePrepared case.now asks.now (length self.new.traffic.items) self.new.traffic.items) }
+        ensures prepared { OnOk result
+            (ArePrepared case.now asks.now (length self.new.traffic.items) self.new.traffic.items) }
         ensures same { map flow_under_way self.new.traffic.items ≡ map flow_under_way self.old.traffic.items }
     {
         // for the contract alone: what holds of the flows depends on the rounds so far

@@ -9,8 +9,8 @@ use link_model::{Arrival, Past, arrival_ack, timeout_ack};
 use std::marker::Model;
 
 /// An acknowledgement in 56 bytes, by what the link knows of it. The whole acknowledgement, with its rates, is computed
-/// by the thread that gives it to its flow, and not by the one that runs the link for all flows. Contracts see the whole
-/// one.
+/// by the thread that gives it to its flow, and not by the one that runs the link for all flows. Contracts see the
+/// whole one.
 #[derive(Drop)]
 pub struct PackedAck {
     /// When it arrives, in microseconds.
@@ -54,7 +54,8 @@ impl PackedAck {
         requires stay { stay ≤ most_flight }
         requires acked { acked ≤ most_packets }
         requires sent { sent ≤ most_packets }
-        ensures { result ≡ arrival_ack_of mss arrival.sent_at arrival.at arrival.marked no_past arrival.lost stay acked sent }
+        ensures { result ≡ arrival_ack_of mss arrival.sent_at arrival.at arrival.marked no_past arrival.lost
+            stay acked sent }
     {
         PackedAck {
             now: arrival.at,

@@ -21,8 +21,8 @@ pub(crate) struct Sending {
 }
 
 impl Sending {
-    /// The sending of a round at `now`, in microseconds, before its first packet; `next` is the chance after the last one
-    /// that a packet got. Looks at the place `near` of the trace first.
+    /// The sending of a round at `now`, in microseconds, before its first packet; `next` is the chance after the last
+    /// one that a packet got. Looks at the place `near` of the trace first.
     pub(crate) fn at(trace: &Trace, rounds: u32, now: u64, next: Chance, near: usize) -> Sending
         requires valid { IsTrace trace.now }
         requires rounds { rounds < most_rounds }

@@ -13,7 +13,8 @@ pub struct FlowLink {
     pub timeout_us: u64,
     /// The numbers of the flow's packets that are lost however full the queue is, each above the one before.
     pub losses: Sequence<u32>,
-    /// How many packets of all flows must wait at least for the flow's next one to be marked. If `None`, none is marked.
+    /// How many packets of all flows must wait at least for the flow's next one to be marked. If `None`, none is
+    /// marked.
     pub mark: Option<u32>,
 }
 

@@ -44,8 +44,8 @@ impl Model for SharedLink {
 }
 
 impl SharedLink {
-    /// A link before its first round. Reserves memory for 64 packets in flight of each flow; a round in which a flow may
-    /// have more reserves more.
+    /// A link before its first round. Reserves memory for 64 packets in flight of each flow; a round in which a flow
+    /// may have more reserves more.
     pub fn new(alloc: Global, case: SharedCase) -> Result<SharedLink, NoMemory>
         requires { IsWithin case }
         ensures case { IfOk result (λ link. link.case ≡ case) }
@@ -64,11 +64,12 @@ impl SharedLink {
     }
 
     /// Runs one more round, in which each flow has one of `asks`, in order: the flows send in turn, then what arrives
-    /// within the round is acknowledged, then flows time out. Answers with each flow's acknowledgements, in order. A link
-    /// has at most 10,000 rounds. If memory runs out, nothing changes.
+    /// within the round is acknowledged, then flows time out. Answers with each flow's acknowledgements, in order. A
+    /// link has at most 10,000 rounds. If memory runs out, nothing changes.
     ///
     /// Before anything is sent, memory is reserved for the packets that each flow may have in flight, and for the most
-    /// acknowledgements that it can get: as many as packets are in flight or may be, and no more than the flow has left.
+    /// acknowledgements that it can get: as many as packets are in flight or may be, and no more than the flow has
+    /// left.
     pub fn round(&mut self, alloc: Global, asks: &[Ask]) -> Result<AckLists, NoMemory>
         requires asks { length asks.now ≡ length self.old.case.flows }
         requires rounds { self.old.rounds < most_rounds }

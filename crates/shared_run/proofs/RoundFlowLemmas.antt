@@ -271,16 +271,6 @@ module _ {F : Type 0} (at : CoreState → F) (bare_of : F → BareState) (law : 
           ap (λ (b : BareState). may_make (over_codes b.case) b.summary letter) (bare-at core after)
           ∙ sym (summary-legal (over_codes core.case) letter (world_of_core over_codes core))
 
-      -- whether an answer is due
-      pub due-is : (due : Bool)
-          → ((w : World ℕ) → bare.summary ≡ summary (over_codes bare.case) w → due ≡ is_answer_due (over_codes bare.case) bare.case.lag w)
-          → (core : CoreState) → IsAfterHistory at core old was → due ≡ answers_next false over_codes core
-      due-is due tells core after =
-          let w = world_of_core over_codes core in
-          let case : bare.case ≡ core.case = ap (λ (b : BareState). b.case) (bare-at core after) in
-          tells w (ap (λ (b : BareState). b.summary) (bare-at core after) ∙ ap (λ (one : Case). summary (over_codes one) w) (sym case))
-          ∙ ap (λ (one : Case). is_answer_due (over_codes one) one.lag w) case
-
       -- its row
       pub row-is : (row : Row) → row ≡ row_in bare.summary was.sums was.peak → (core : CoreState) → IsAfterHistory at core old was → row ≡ flow_row over_codes core
       row-is row read core after =

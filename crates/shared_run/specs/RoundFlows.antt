@@ -78,7 +78,8 @@ pub record MayHear {F : Type 0} (at : CoreState → F) (acks : List Ack) (flow :
 
 -- after whatever history they were, they are after that history and the step
 abbrev pub Goes : {F : Type 0} → (CoreState → F) → (CoreState → CoreState) → F → Tally → F → Tally → Type 0
-Goes at step old was new now = (core : CoreState) → IsAfterHistory at core old was → IsAfterHistory at (step core) new now
+Goes at step old was new now =
+    (core : CoreState) → IsAfterHistory at core old was → IsAfterHistory at (step core) new now
 
 -- a ticket was taken if that is legal, and else nothing was changed
 abbrev pub Took : {F : Type 0} → (CoreState → F) → Bool → F → Tally → F → Tally → Type 0

@@ -23,7 +23,8 @@ pub(crate) struct RunFlow<C: Course, F: RoundFlow> {
     /// Whether its part of the next round ran out of memory.
     lacked_memory: bool,
     of: PhantomData<C>,
-    ghost stands: { lacked_memory ≡ false → run_flow_in F.at C.link C.cases round number ≡ Some (flow.flow, flow.tally) },
+    ghost stands: { lacked_memory ≡ false
+        → run_flow_in F.at C.link C.cases round number ≡ Some (flow.flow, flow.tally) },
 }
 
 /// A flow of a run behind its lock. The flows of a run are in one list, in which each has cache lines of its own: two
@@ -87,7 +88,8 @@ impl<C: Course, F: RoundFlow> RunFlow<C, F> {
 
     /// That flow after this many rounds. If it isn't there, that is reported as out of memory.
     pub(crate) fn into_flow(self, number: u32, round: u32) -> Result<SharedFlow<F>, NoMemory>
-        ensures { IfOk result (λ shared. run_flow_in F.at C.link C.cases round number ≡ Some (shared.flow, shared.tally)) }
+        ensures { IfOk result (λ shared.
+            run_flow_in F.at C.link C.cases round number ≡ Some (shared.flow, shared.tally)) }
     {
         if !self.is_at(number, round) {
             return Err(NoMemory);

@@ -38,7 +38,9 @@ module _ (p : PoolState) (own : ℕ) where
 
 module _ (old new : PoolState) (own slot : ℕ) (held : Option (List ℕ)) where
   -- a change of another slot is one there
-  pub ChangesSlot-without : slot ≢ own → ChangesSlot old new slot held → ChangesSlot (without old own) (without new own) slot held
+  pub ChangesSlot-without : slot ≢ own
+      → ChangesSlot old new slot held
+      → ChangesSlot (without old own) (without new own) slot held
   ChangesSlot-without apart c = record {
     changed = words_at-without new own slot apart ∙ c.changed;
     others = λ other away. elim (cases_eq other own) [
@@ -53,10 +55,12 @@ module _ (old new : PoolState) (own slot : ℕ) (held : Option (List ℕ)) where
   }
 
 -- a change of the slot that is kept aside leaves the others
-pub without-changed : (old new : PoolState) (own : ℕ) (held : Option (List ℕ)) → ChangesSlot old new own held → without new own ≡ without old own
+pub without-changed : (old new : PoolState) (own : ℕ) (held : Option (List ℕ))
+    → ChangesSlot old new own held → without new own ≡ without old own
 without-changed old new own held c =
     let out : map.remove new.out own ≡ map.remove old.out own =
     same_out (map.remove new.out own) (map.remove old.out own) own
     (get-remove_same new.out own ∙ sym (get-remove_same old.out own))
-    (λ other apart. get-remove_other new.out own other apart ∙ c.others other apart ∙ sym (get-remove_other old.out own other apart)) in
+    (λ other apart.
+    get-remove_other new.out own other apart ∙ c.others other apart ∙ sym (get-remove_other old.out own other apart)) in
     λ i. record { slots = c.slots i - 1; words = c.words i; out = out i }
