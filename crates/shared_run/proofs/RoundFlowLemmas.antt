@@ -21,7 +21,6 @@ use Rattle.flow_core.proofs.WordLemmas.{acks-of-world_over, world_over-A}
 use Rattle.campaign_gate.specs.declared.tally.Tally.{Tally}
 use Rattle.campaign_gate.specs.declared.row.Row.{Row}
 use Rattle.campaign_gate.specs.declared.sums.Sums.{Sums}
-use Rattle.campaign_gate.specs.CampaignWord.{is_answer_due}
 use Rattle.campaign_gate.specs.CampaignRow.{timeouts_in, sums_of, sums_with, row_in, window_of}
 use Rattle.campaign_gate.specs.CampaignRow as campaign
 use Rattle.campaign_gate.specs.CaseRuns.{left_in}
