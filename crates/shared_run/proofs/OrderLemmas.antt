@@ -1,12 +1,12 @@
 -- The parts of a round are dealt to the workers' orders one flow after another.
 use Rattle.std.specs.Prelude.{◌≡◌, ◌≢◌, ◌<◌, ℕ, ◌+◌, ◌%◌, suc, ◌==◌, Bool, true, false, Some, Result, Ok, Err, OnOk}
 use Rattle.std.specs.Prelude.{List, [], ◌∷◌, ◌++◌, length, map, take, drop, slice_get, refl}
-use Rattle.std.specs.List.{filter, enumerate_from}
-use Rattle.std.proofs.Common.{arith, ap, sym, ◌∙◌, set, cond, append-nil, inl, inr}
+use Rattle.std.specs.List.{All, filter, enumerate_from}
+use Rattle.std.proofs.Common.{arith, ap, sym, ◌∙◌, subst, set, cond, append-nil, inl, inr}
 use Rattle.std.proofs.lemmas.Bool.Decides.{eqb_tells}
 use Rattle.std.proofs.Math.Seq.{take-length, drop-length}
-use Rattle.std.proofs.lemmas.List.{length-map}
-use Rattle.std.proofs.lemmas.List.Elements.{filter-append}
+use Rattle.std.proofs.lemmas.List.{length-map, map-append}
+use Rattle.std.proofs.lemmas.List.Elements.{All-append, filter-append}
 use Rattle.std.proofs.lemmas.Option.{slice_get_within}
 use Rattle.std.proofs.Math.Nat.{mod-lt}
 use Rattle.circular_buffer.proofs.Places.{slice_get-set_same, slice_get-set_other}
@@ -123,3 +123,16 @@ maps-as-before n items new f is same =
     let front : take n (new ++ drop (length new) items) ≡ new =
     ap (λ (xs : List _). take n xs) all ∙ ap (λ (k : ℕ). take k new) (is ∙ sym long) ∙ take-length new in
     ap (map f) front ∙ same
+
+-- ---- parts that are a worker's own
+
+-- one part more
+own-more : {X : Type 0} (P : FlowPart → Type 0) (f : X → FlowPart) (b : Bool) (old : List X) (part : X) → All P (map f old) → All P (map f (part ∷ []))
+    → All P (map f (cond b (old ++ part ∷ []) old))
+own-more P f true old part own one = subst (All P) (sym (map-append f old (part ∷ []))) (All-append P (map f old) (map f (part ∷ [])) own one)
+own-more P f false old part own one = own
+
+-- a part was put at the end of a list, or nothing was changed
+pub own-pushed : {X : Type 0} (P : FlowPart → Type 0) (f : X → FlowPart) (b : Bool) (old new : List X) (part : X) → new ≡ cond b (old ++ part ∷ []) old
+    → All P (map f old) → All P (map f (part ∷ [])) → All P (map f new)
+own-pushed P f b old new part is own one = subst (λ (parts : List _). All P (map f parts)) (sym is) (own-more P f b old part own one)

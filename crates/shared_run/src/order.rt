@@ -1,5 +1,5 @@
 //! What a worker is to do in a round: the parts of its flows.
-ghost use Rattle.std.specs.Prelude.{◌≡◌, ◌%◌, [], ◌++◌, map, option_to_list, OnOk};
+ghost use Rattle.std.specs.Prelude.{◌≡◌, ◌%◌, [], map, option_to_list, OnOk};
 ghost use Rattle.std.specs.List.{All};
 ghost use Rattle.shared_run.specs.Orders.{FlowPart, OrderState, with_flow_part, AreDealt};
 
@@ -34,7 +34,9 @@ pub(crate) struct Order<C: Course> {
     /// needn't wait for a list from the sender's processor.
     last: Option<Part<C>>,
     ghost own: { All (λ (part : FlowPart). part.0 % workers ≡ worker)
-        (map (λ part. (part.acks.number, part.acks.acks)) (earlier.items ++ option_to_list last)) },
+        (map (λ part. (part.acks.number, part.acks.acks)) earlier.items) },
+    ghost own_last: { All (λ (part : FlowPart). part.0 % workers ≡ worker)
+        (map (λ part. (part.acks.number, part.acks.acks)) (option_to_list last)) },
 }
 
 /// What is known of the flows is no part of the model: when the parts are done, the order is as before.

@@ -1,4 +1,4 @@
-use Rattle.std.proofs.Common.{slice_index_or, ap, ◌∙◌}
+use Rattle.std.proofs.Common.{ap, ◌∙◌}
 use Rattle.std.proofs.Math.Seq.{map-set_same}
 use Rattle.shared_run.specs.Orders.{FlowPart}
 use Rattle.shared_run.proofs.order.do_all.Goals as goal

@@ -5,4 +5,4 @@ abbrev pub invariant-loop-part : goal.invariant-loop-part
 invariant-loop-part g l = (l.self.link ≡ l.fn.self.link) × (length l.self.known.items ≡ length l.fn.self.known.items)
 
 abbrev pub decreases-loop-part : goal.decreases-loop-part
-decreases-loop-part g l = length l.parts.items
+decreases-loop-part g l = length l.earlier.items
