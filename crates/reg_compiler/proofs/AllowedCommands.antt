@@ -111,19 +111,19 @@ action-allowed fall known sizes marks scope is fits = (refl, tt)
 
 -- the names after a command have a value
 
-IsScope-with_local : (next told : Bool) (known : KnownNames) (sizes : Sizes) (marks : Marks) → IsScope known sizes marks → (next ≡ true → (length known.locals < 8) × (marks.locals (length known.locals) ≡ true)) → IsScope (with_known_local known next told) sizes marks
-IsScope-with_local true told known sizes marks scope room = record {
+IsScope-with_local : (next is_bool : Bool) (known : KnownNames) (sizes : Sizes) (marks : Marks) → IsScope known sizes marks → (next ≡ true → (length known.locals < 8) × (marks.locals (length known.locals) ≡ true)) → IsScope (with_known_local known next is_bool) sizes marks
+IsScope-with_local true is_bool known sizes marks scope room = record {
   fields = scope.fields;
   controls = scope.controls;
-  few = omega (arith, length-append known.locals (told ∷ []), (room refl).0);
+  few = omega (arith, length-append known.locals (is_bool ∷ []), (room refl).0);
   locals = λ i below. elim (cases_lt i (length known.locals)) [
     | inl before ↦ scope.locals i before
     | inr last ↦
-        let is : i ≡ length known.locals = omega (arith, last, below, length-append known.locals (told ∷ [])) in
+        let is : i ≡ length known.locals = omega (arith, last, below, length-append known.locals (is_bool ∷ [])) in
         ap marks.locals is ∙ (room refl).1
   ];
 }
-IsScope-with_local false told known sizes marks scope room = scope
+IsScope-with_local false is_bool known sizes marks scope room = scope
 
 next-written : (v : Var) (known : KnownNames) (marks : Marks) → missing_value marks (variable_reg v) ≡ None → is_next_local known v ≡ true → (length known.locals < 8) × (marks.locals (length known.locals) ≡ true)
 next-written (var.Local i) known marks written is =

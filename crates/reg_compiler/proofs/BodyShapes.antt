@@ -49,26 +49,26 @@ Fits-written_where known true v value going fits = Fits-written known v value go
 Fits-written_where known false v value going fits = fits
 
 -- one more local
-next-written : (known : KnownNames) (told is : Bool) (going : Going) (i value j : ℕ) → i ≡ length known.locals → Fits known going → (j == i) ≡ is → j < length (known.locals ++ told ∷ []) → cond is (Some value) (going.locals j) ≡ Some (unwrap_or (cond is (Some value) (going.locals j)) 0)
-next-written known told true going i value j next fits is below = refl
-next-written known told false going i value j next fits is below =
-    fits.locals j (omega (arith, below, length-append known.locals (told ∷ []), next, eqb-false j i is))
+next-written : (known : KnownNames) (is_bool is : Bool) (going : Going) (i value j : ℕ) → i ≡ length known.locals → Fits known going → (j == i) ≡ is → j < length (known.locals ++ is_bool ∷ []) → cond is (Some value) (going.locals j) ≡ Some (unwrap_or (cond is (Some value) (going.locals j)) 0)
+next-written known is_bool true going i value j next fits is below = refl
+next-written known is_bool false going i value j next fits is below =
+    fits.locals j (omega (arith, below, length-append known.locals (is_bool ∷ []), next, eqb-false j i is))
 
-Fits-next : (known : KnownNames) (v : Var) (told : Bool) (value : ℕ) (going : Going) → is_next_local known v ≡ true → Fits known going → Fits (names.with_known_local known true told) (with_written v value going)
-Fits-next known (var.Local i) told value going is fits = record {
+Fits-next : (known : KnownNames) (v : Var) (is_bool : Bool) (value : ℕ) (going : Going) → is_next_local known v ≡ true → Fits known going → Fits (names.with_known_local known true is_bool) (with_written v value going)
+Fits-next known (var.Local i) is_bool value going is fits = record {
   sized = record { fields = fits.sized.fields; controls = fits.sized.controls };
-  locals = λ j below. next-written known told (j == i) going i value j (eqb-true i (length known.locals) (and_parts (i == length known.locals) (nat_lt i 8) is).0) fits refl below;
+  locals = λ j below. next-written known is_bool (j == i) going i value j (eqb-true i (length known.locals) (and_parts (i == length known.locals) (nat_lt i 8) is).0) fits refl below;
 }
-Fits-next known (var.Field i) told value going is fits = absurd (cc)
-Fits-next known (var.Control i) told value going is fits = absurd (cc)
-Fits-next known (var.Prim n) told value going is fits = absurd (cc)
-Fits-next known var.Cwnd told value going is fits = absurd (cc)
-Fits-next known var.Rate told value going is fits = absurd (cc)
-Fits-next known var.Micros told value going is fits = absurd (cc)
+Fits-next known (var.Field i) is_bool value going is fits = absurd (cc)
+Fits-next known (var.Control i) is_bool value going is fits = absurd (cc)
+Fits-next known (var.Prim n) is_bool value going is fits = absurd (cc)
+Fits-next known var.Cwnd is_bool value going is fits = absurd (cc)
+Fits-next known var.Rate is_bool value going is fits = absurd (cc)
+Fits-next known var.Micros is_bool value going is fits = absurd (cc)
 
-Fits-set : (known : KnownNames) (v : Var) (is told : Bool) (value : ℕ) (going : Going) → is_next_local known v ≡ is → Fits known going → Fits (names.with_known_local known is told) (with_written v value going)
-Fits-set known v true told value going is fits = Fits-next known v told value going is fits
-Fits-set known v false told value going is fits = Fits-written known v value going fits
+Fits-set : (known : KnownNames) (v : Var) (is is_bool : Bool) (value : ℕ) (going : Going) → is_next_local known v ≡ is → Fits known going → Fits (names.with_known_local known is is_bool) (with_written v value going)
+Fits-set known v true is_bool value going is fits = Fits-next known v is_bool value going is fits
+Fits-set known v false is_bool value going is fits = Fits-written known v value going fits
 
 pub Fits-command : (known : KnownNames) (action : Action) (ack : Ack) (going : Going) → Fits known going → IfOk (command_of action ack going) (Fits (known_after known action))
 Fits-command known (set v term) ack going fits =
@@ -91,9 +91,9 @@ Fits-command known report ack going fits = record { sized = fits.sized; locals =
 Fits-command known fall ack going fits = record { sized = fits.sized; locals = fits.locals }
 
 -- a command adds a local at most
-Sized-without : (known : KnownNames) (is told : Bool) (env : Env) → Sized (names.with_known_local known is told) env → Sized known env
-Sized-without known true told env sized = record { fields = sized.fields; controls = sized.controls }
-Sized-without known false told env sized = sized
+Sized-without : (known : KnownNames) (is is_bool : Bool) (env : Env) → Sized (names.with_known_local known is is_bool) env → Sized known env
+Sized-without known true is_bool env sized = record { fields = sized.fields; controls = sized.controls }
+Sized-without known false is_bool env sized = sized
 
 Sized-before : (known : KnownNames) (action : Action) (env : Env) → Sized (known_after known action) env → Sized known env
 Sized-before known (set v term) env sized = Sized-without known (is_next_local known v) (term_is_truth known term) env sized
