@@ -55,7 +55,7 @@ BUILT_INS = re.findall(r"(\w+)_text\b", re.search(r"^builtins = (.*)$", definiti
 
 def columns_of_rows():
     """The columns of numbers in a table, in order, each with whether the total has its sum."""
-    text = definition("CampaignRow.antt", "campaign_gate")
+    text = definition("CampaignRow.antt", "campaign_core")
     names = dict(re.findall(r'^heading_of (\w+) = codes "(\w+)"', text, re.MULTILINE))
     left_out = re.findall(r"^is_summed (\w+) = false", text, re.MULTILINE)
     order = re.search(r"^columns =\s+(.*?) ∷ \[\]", text, re.MULTILINE | re.DOTALL).group(1)

@@ -7,7 +7,7 @@ use Rattle.ccp_base.specs.declared.outside.NoMemory.{NoMemory}
 use Rattle.flow_core.specs.declared.book.Book.{Book}
 use Rattle.flow_core.specs.declared.case.Case.{Case}
 use Rattle.flow_core.specs.Cells.{CellState}
-use Rattle.campaign_gate.specs.CampaignWord.{plan}
+use Rattle.campaign_core.specs.CampaignWord.{plan}
 use Rattle.campaign_gate.specs.CampaignBooks.{planned, IsCampaignBook, AreCampaignBooks}
 use Rattle.campaign_gate.proofs.ShareLemmas.{drop-next, none-left}
 

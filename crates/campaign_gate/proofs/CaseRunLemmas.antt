@@ -17,15 +17,16 @@ use Rattle.flow_core.proofs.LeftLemmas.{left-letter}
 use Rattle.flow_core.proofs.MappedLemmas.{count-mapped}
 use Rattle.flow_core.proofs.SummaryLemmas.{summary-legal}
 use Rattle.flow_core.proofs.WordLemmas.{take-keeps, answer-keeps}
-use Rattle.campaign_gate.specs.declared.tally.Tally.{Tally}
-use Rattle.campaign_gate.specs.declared.sums.Sums.{Sums}
-use Rattle.campaign_gate.specs.CampaignWord.{is_late, first_letter, plan_from, plan}
-use Rattle.campaign_gate.specs.CampaignRow.{sums_of, sums_with, AreRoomy, peak_of}
+use Rattle.campaign_core.specs.declared.tally.Tally.{Tally}
+use Rattle.campaign_core.specs.declared.sums.Sums.{Sums}
+use Rattle.campaign_core.specs.CampaignWord.{is_late, first_letter, plan_from, plan}
+use Rattle.campaign_core.specs.CampaignRow.{sums_of, sums_with, AreRoomy, peak_of}
 use Rattle.campaign_gate.specs.CampaignBooks.{planned}
-use Rattle.campaign_gate.specs.CaseRuns.{next_planned, plan_at, left_in, due_to, next_in, MayMake, MayHear, Makes, sums_after, IsOnWay, IsNextLetter, Onward, IsEnded}
-use Rattle.campaign_gate.proofs.PlanLemmas.{next-legal, plan-next, plan-none}
-use Rattle.campaign_gate.proofs.PeakLemmas.{peak-append}
-use Rattle.campaign_gate.proofs.SumLemmas.{sums-append, roomy}
+use Rattle.campaign_core.specs.BareLetters.{left_in, due_to}
+use Rattle.campaign_gate.specs.CaseRuns.{next_planned, plan_at, next_in, MayMake, MayHear, Makes, sums_after, IsOnWay, IsNextLetter, Onward, IsEnded}
+use Rattle.campaign_core.proofs.PlanLemmas.{next-legal, plan-next, plan-none}
+use Rattle.campaign_core.proofs.PeakLemmas.{peak-append}
+use Rattle.campaign_core.proofs.SumLemmas.{sums-append, roomy}
 
 -- ---- what later letters depend on
 

@@ -15,11 +15,11 @@ use Rattle.flow_core.specs.Words.{from_link, after_letter, world, most_letters}
 use Rattle.flow_core.specs.WordLaws.{world-append}
 use Rattle.flow_core.specs.Lift.{Placing, place_in, map_world}
 use Rattle.flow_core.proofs.LiftLemmas.{link-lift}
-use Rattle.campaign_gate.specs.CampaignWord.{first_letter, next_of, then_rest, plan_from, plan_over}
-use Rattle.campaign_gate.specs.CampaignRow.{window_of, peak_from, row_over, row_after, row_read, case_row}
+use Rattle.campaign_core.specs.CampaignWord.{first_letter, next_of, then_rest, plan_from, plan_over}
+use Rattle.campaign_core.specs.CampaignRow.{window_of, peak_from, row_over, row_after, row_read, case_row}
 use Rattle.campaign_gate.specs.LiftedRow.{RowHoldsForSources}
 use Rattle.campaign_gate.specs.CampaignBooks.{acks_read, HasSourcePlan}
-use Rattle.campaign_gate.proofs.SourceReadings.{late-placed, some-placed, none-placed, can-placed, track-placed, row-placed}
+use Rattle.campaign_core.proofs.SourceReadings.{late-placed, some-placed, none-placed, can-placed, track-placed, row-placed}
 
 -- ---- the two readings of a case
 

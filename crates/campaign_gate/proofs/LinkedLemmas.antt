@@ -21,7 +21,7 @@ use Rattle.campaign_gate.specs.declared.linked.Linked.{Linked}
 use Rattle.campaign_gate.specs.declared.listed.Listed.{Listed}
 use Rattle.campaign_gate.specs.CaseRuns.{MayMake, Makes}
 use Rattle.campaign_gate.specs.LinkedFlows.{linked_at, listed_at}
-use Rattle.campaign_gate.proofs.SumLemmas.{calls-run}
+use Rattle.campaign_core.proofs.SumLemmas.{calls-run}
 use Rattle.campaign_gate.proofs.CaseRunLemmas.{world-longer}
 
 -- ---- a letter

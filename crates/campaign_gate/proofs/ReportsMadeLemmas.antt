@@ -18,9 +18,9 @@ use Rattle.flow_core.specs.World.{Failure, Content, of_report, of_failure, Era, 
 use Rattle.flow_core.specs.Words.{Giving, from_link, with_given, after_letter, world_from, world, is_legal, legal_from}
 use Rattle.flow_core.specs.Books.{ticket_line}
 use Rattle.flow_core.specs.LiveText.{report_count, reports_told}
-use Rattle.campaign_gate.specs.CampaignWord.{plan_over}
+use Rattle.campaign_core.specs.CampaignWord.{plan_over}
 use Rattle.campaign_gate.specs.ReportsMade.{era_reports, reports_from, reports_made, reports_of, reports_answered, CountsReports, RowCountsReports}
-use Rattle.campaign_gate.proofs.PlanLemmas.{plan_over-legal, plan_over-complete}
+use Rattle.campaign_core.proofs.PlanLemmas.{plan_over-legal, plan_over-complete}
 
 -- ---- one more event, epoch or ticket
 

@@ -13,7 +13,7 @@ use Rattle.flow_core.specs.Readings.{Flow, over_codes, over_sources}
 use Rattle.flow_core.specs.Words.{world, legal}
 use Rattle.flow_core.specs.Books.{IsBookOf}
 use Rattle.flow_core.specs.Cells.{CellState, flow_at, world_at, IsComplete, StateHoldsForSources}
-use Rattle.campaign_gate.specs.CampaignWord.{plan_over, plan}
+use Rattle.campaign_core.specs.CampaignWord.{plan_over, plan}
 
 -- a case's flow after its campaign word
 abbrev pub planned : Case → CellState

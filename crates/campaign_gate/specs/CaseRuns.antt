@@ -1,20 +1,19 @@
 -- The run of a case: its flow on the way along the campaign word, its tally, and what a letter changes of both.
-use Rattle.std.specs.Prelude.{◌≡◌, ℕ, ◌+◌, ◌-◌, ◌*◌, ◌<◌, ◌≤◌, nat_lt, nat_le, Bool, true, false, not, ◌||◌}
-use Rattle.std.specs.Prelude.{Option, Some, None, option_map, List, [], ◌∷◌, ◌++◌, length}
+use Rattle.std.specs.Prelude.{◌≡◌, ℕ, ◌+◌, ◌-◌, ◌<◌, ◌≤◌, true, Option, Some, List, [], ◌++◌, length}
 use Rattle.flow_core.specs.declared.case.Case.{Case}
 use Rattle.flow_core.specs.declared.letter.Letter.{Letter}
 use Rattle.flow_core.specs.declared.letter.Letter.TheVariants.{A, T, C}
 use Rattle.flow_core.specs.Words.{is_legal, most_letters}
 use Rattle.flow_core.specs.Readings.{over_codes}
-use Rattle.flow_core.specs.States.{some_count}
 use Rattle.flow_core.specs.Summaries.{may_make}
 use Rattle.flow_core.specs.Bares.{BareState}
 use Rattle.flow_core.specs.Cells.{CellState, flow_at, world_at, ack_at, with_letter}
 use Rattle.flow_core.specs.LettersLeft.{left_at}
-use Rattle.campaign_gate.specs.declared.sums.Sums.{Sums}
-use Rattle.campaign_gate.specs.declared.tally.Tally.{Tally}
-use Rattle.campaign_gate.specs.CampaignWord.{first_letter, next_of, plan_from, plan}
-use Rattle.campaign_gate.specs.CampaignRow.{sums_of, sums_with, AreRoomy, peak_of}
+use Rattle.campaign_core.specs.declared.sums.Sums.{Sums}
+use Rattle.campaign_core.specs.declared.tally.Tally.{Tally}
+use Rattle.campaign_core.specs.BareLetters.{left_in, is_due_in}
+use Rattle.campaign_core.specs.CampaignWord.{first_letter, next_of, plan_from, plan}
+use Rattle.campaign_core.specs.CampaignRow.{sums_of, sums_with, AreRoomy, peak_of}
 use Rattle.campaign_gate.specs.CampaignBooks.{planned}
 
 -- the next letter of a cell's campaign word
@@ -32,22 +31,6 @@ plan_at cell =
 -- a case without a letter
 abbrev pub opened : Case → CellState
 opened case = record { case = case; word = [] }
-
--- how many letters the word can have yet
-abbrev pub left_in : BareState → ℕ
-left_in bare =
-    let s = bare.summary in
-    most_letters (bare.case.acks - s.acks) + (2 * (length s.waiting + some_count s.untold) + some_count s.out)
-
--- an answer is due, by whether an acknowledgement is left, and at how many the ticket that is out was taken
-abbrev pub due_to : Bool → ℕ → ℕ → Option ℕ → Bool
-due_to more lag acks None = false
-due_to more lag acks (Some taken) = not more || nat_le (taken + lag) acks
-
-abbrev pub is_due_in : BareState → Bool
-is_due_in bare =
-    let s = bare.summary in
-    due_to (nat_lt s.acks bare.case.acks) bare.case.lag s.acks (option_map (λ issued. issued.taken) s.out)
 
 -- the next letter of the campaign word
 abbrev pub next_in : BareState → Option Letter

@@ -1,13 +1,11 @@
 -- The definitions of campaign_gate, a file each.
 
--- those that contracts of public calls cite: the campaign word, rows, books, and when an answer is due
-pub mod CampaignWord
-pub mod CampaignRow
-pub mod CaseRuns
+-- those that contracts of public calls cite: books, and what rows are to the programs and to the reports made
 pub mod CampaignBooks
 pub mod LiftedRow
 pub mod ReportsMade
 -- those that only private contracts, invariants and proofs cite
+pub mod CaseRuns
 pub mod LinkedFlows
 pub mod Shares
 pub mod Parts

@@ -6,7 +6,7 @@ use Rattle.portus_core.specs.Programs.{Form}
 use Rattle.reg_compiler.specs.Simulation.{Simulates}
 use Rattle.flow_core.specs.declared.case.Case.{Case}
 use Rattle.flow_core.specs.Readings.{over_sources}
-use Rattle.campaign_gate.specs.CampaignRow.{row_read, case_row}
+use Rattle.campaign_core.specs.CampaignRow.{row_read, case_row}
 
 abbrev pub RowHoldsForSources : Case → Type 0
 RowHoldsForSources case =

@@ -10,8 +10,8 @@ use Rattle.flow_core.specs.declared.case.Case.{Case}
 use Rattle.flow_core.specs.Readings.{Flow, over_codes, over_sources}
 use Rattle.flow_core.specs.World.{Content, of_report, of_failure, Era, Answered, World}
 use Rattle.flow_core.specs.Words.{world}
-use Rattle.campaign_gate.specs.CampaignWord.{plan_over}
-use Rattle.campaign_gate.specs.CampaignRow.{row_read}
+use Rattle.campaign_core.specs.CampaignWord.{plan_over}
+use Rattle.campaign_core.specs.CampaignRow.{row_read}
 
 -- the reports of an epoch with this number
 abbrev pub era_reports : {X : Type 0} → Flow X → ℕ → Era → List Report

@@ -6,16 +6,16 @@ ghost use Rattle.flow_core.specs.Readings.{over_codes};
 ghost use Rattle.flow_core.specs.Words.{world, legal, is_complete};
 ghost use Rattle.flow_core.specs.Cells.{CellState};
 ghost use Rattle.flow_core.specs.declared.book.Book.{Book};
-ghost use Rattle.campaign_gate.specs.CampaignWord.{plan};
-ghost use Rattle.campaign_gate.specs.CampaignRow.{case_row};
+ghost use Rattle.campaign_core.specs.CampaignWord.{plan};
+ghost use Rattle.campaign_core.specs.CampaignRow.{case_row};
 ghost use Rattle.campaign_gate.specs.CampaignBooks.{acks_of_case, IsCampaignBook, AreCampaignBooks, HasSourcePlan};
 ghost use Rattle.campaign_gate.specs.LiftedRow.{RowHoldsForSources};
 
 use crate::case_result::CaseResult;
 use crate::entered::Entered;
 use crate::queue::Queue;
-use crate::row::{Row, Rows};
 use crate::workers::make_by_workers;
+use campaign_core::{CaseAcks, Cases, Row, Rows};
 use ccp_base::{Acks, Gate, NoMemory, OpenGate, Sequence, Workers};
 use flow_core::{Book, Case, Cell};
 use std::alloc::Global;
@@ -32,9 +32,6 @@ pub fn run_case(alloc: Global, case: Case) -> Result<Row, NoMemory>
 {
     Row::make(alloc, Entered::enter(&OpenGate, 0, 0, case))
 }
-
-/// The cases of a campaign in order.
-pub type Cases = Sequence<Case>;
 
 /// The rows of at most 1,024 cases, in their order. They don't depend on `workers`. Worker `w` runs the cases `i` with
 /// `i mod workers = w`, in order, and drops each flow after its case. It passes `gate` at `InCase` before a case and at
@@ -97,9 +94,6 @@ pub fn books<R: Threads + Sync, G: Gate + Sync>(
     let cells = make_by_workers::<Brand, Cell, R, G>(rt, alloc, cases.as_slice(), workers, gate)?;
     books_of(alloc, cells)
 }
-
-/// The acknowledgements of each case of a campaign, in the order of the cases.
-pub type CaseAcks = Sequence<Acks>;
 
 /// The acknowledgements that each of at most 1,024 cases gets on its campaign word, in the order of the cases. The
 /// workers are those of `rows`: the same number of them runs the same cases and passes the same gates.

@@ -3,11 +3,11 @@ ghost use Rattle.std.specs.Prelude.{◌≡◌, true, refl, OnOk};
 ghost use Rattle.flow_core.specs.Words.{is_legal};
 ghost use Rattle.flow_core.specs.Bares.{BareState};
 ghost use Rattle.flow_core.specs.Cells.{CellState, flow_at, world_at, bare_at, ack_at, with_letter};
-ghost use Rattle.campaign_gate.specs.CampaignRow.{sums_with};
+ghost use Rattle.campaign_core.specs.CampaignRow.{sums_with};
 ghost use Rattle.campaign_gate.specs.CaseRuns.{MayMake, MayHear, Makes};
 
-use crate::sums::Sums;
 use agent_core::calls::answer;
+use campaign_core::Sums;
 use ccp_base::{Ack, NoMemory};
 use flow_core::{Bare, Cell, Letter, TakeFault};
 use std::alloc::Global;

@@ -1,14 +1,14 @@
 //! The results that a worker can make of a case: its row, its flow after the campaign word, or its acknowledgements.
 ghost use Rattle.std.specs.Prelude.{◌≡◌, IfOk};
 ghost use Rattle.flow_core.specs.declared.case.Case.{Case};
-ghost use Rattle.campaign_gate.specs.CampaignRow.{case_row};
+ghost use Rattle.campaign_core.specs.CampaignRow.{case_row};
 ghost use Rattle.campaign_gate.specs.CampaignBooks.{planned, acks_of_case};
 
 use crate::completion::run_to_end;
 use crate::entered::Entered;
 use crate::linked::Linked;
 use crate::listed::Listed;
-use crate::row::Row;
+use campaign_core::Row;
 use ccp_base::{Ack, Acks, NoMemory, Sequence};
 use flow_core::Cell;
 use std::alloc::Global;

@@ -1,40 +1,18 @@
 //! The run of a case: its flow on the way along the campaign word, and beside it what its row needs of the letters so
 //! far.
-ghost use Rattle.std.specs.Prelude.{◌≡◌, ℕ, OnOk};
-ghost use Rattle.flow_core.specs.Readings.{over_codes};
-ghost use Rattle.flow_core.specs.World.{World};
-ghost use Rattle.flow_core.specs.Summaries.{summary};
+ghost use Rattle.std.specs.Prelude.{◌≡◌, OnOk};
 ghost use Rattle.flow_core.specs.Cells.{CellState};
-ghost use Rattle.campaign_gate.specs.CampaignWord.{is_answer_due};
-ghost use Rattle.campaign_gate.specs.CampaignRow.{case_row};
-ghost use Rattle.campaign_gate.specs.CaseRuns.{opened, is_due_in, next_in, sums_after};
+ghost use Rattle.campaign_core.specs.CampaignRow.{case_row};
+ghost use Rattle.campaign_gate.specs.CaseRuns.{opened, next_in, sums_after};
 ghost use Rattle.campaign_gate.specs.CaseRuns.{IsOnWay, IsNextLetter, Makes, Onward, IsEnded};
 ghost use Rattle.campaign_gate.specs.LinkedFlows.{linked_at};
 
 use crate::campaign_flow::CampaignFlow;
 use crate::linked::Linked;
-use crate::row::Row;
-use crate::tally::Tally;
+use campaign_core::{Row, Tally, is_due};
 use ccp_base::NoMemory;
 use flow_core::{Bare, Letter};
 use std::alloc::Global;
-
-/// Whether an answer is due to the ticket that is out, in each state of a flow that the bare flow is the summary of.
-#[inline]
-pub fn is_due(bare: &Bare) -> bool
-    ensures kept { result ≡ is_due_in bare.now }
-    ensures due { (w : World ℕ) → bare.now.summary ≡ summary (over_codes bare.now.case) w
-        → result ≡ is_answer_due (over_codes bare.now.case) bare.now.case.lag w }
-{
-    let acks = bare.acks();
-    let case = bare.case();
-    match bare.taken() {
-        None => false,
-        Some(taken) => {
-            acks >= case.acks || u64::from(taken) + u64::from(case.lag) <= u64::from(acks)
-        }
-    }
-}
 
 /// The next letter of the campaign word, None at its end.
 #[inline(always)]

@@ -2,7 +2,7 @@
 ghost use Rattle.std.specs.Prelude.{◌≡◌, true};
 ghost use Rattle.flow_core.specs.Readings.{over_codes};
 ghost use Rattle.flow_core.specs.Words.{world, legal, is_complete};
-ghost use Rattle.campaign_gate.specs.CampaignWord.{plan};
+ghost use Rattle.campaign_core.specs.CampaignWord.{plan};
 ghost use Rattle.campaign_gate.specs.ReportsMade.{RowCountsReports};
 
 use flow_core::Case;

@@ -11,15 +11,9 @@ mod laws;
 mod linked;
 mod listed;
 mod queue;
-mod row;
 mod share;
-mod sums;
-mod tally;
 mod workers;
 
-pub use calls::{Books, CaseAcks, Cases};
-pub use case_run::is_due;
+pub use calls::Books;
+pub use campaign_core::{CaseAcks, Cases, Column, Row, Rows, Sums, Tally, is_due};
 pub use laws::row_law;
-pub use row::{Column, Row, Rows};
-pub use sums::Sums;
-pub use tally::Tally;

@@ -5,7 +5,7 @@ ghost use Rattle.campaign_gate.specs.CaseRuns.{opened, MayMake, Makes};
 ghost use Rattle.campaign_gate.specs.LinkedFlows.{linked_at};
 
 use crate::campaign_flow::CampaignFlow;
-use crate::sums::Sums;
+use campaign_core::Sums;
 use ccp_base::{Ack, NoMemory};
 use flow_core::{Bare, Case, Letter};
 use link_model::Link;

@@ -5,7 +5,7 @@ ghost use Rattle.campaign_gate.specs.LinkedFlows.{listed_at};
 
 use crate::campaign_flow::CampaignFlow;
 use crate::linked::Linked;
-use crate::sums::Sums;
+use campaign_core::Sums;
 use ccp_base::{Acks, NoMemory};
 use flow_core::{Bare, Case};
 use std::alloc::Global;

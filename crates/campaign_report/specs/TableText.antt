@@ -3,9 +3,9 @@ use Rattle.std.specs.Prelude.{ℕ, ◌+◌, Bool, true, false, List, [], ◌∷�
 use Rattle.ccp_base.specs.Text.{◌⧺◌}
 use Rattle.agent_core.specs.declared.agent.Agent.{Agent}
 use Rattle.flow_core.specs.LiveText.{agent_text}
-use Rattle.campaign_gate.specs.declared.row.Column.{Column}
-use Rattle.campaign_gate.specs.declared.row.Row.{Row}
-use Rattle.campaign_gate.specs.CampaignRow.{columns, heading_of, column_value, is_summed}
+use Rattle.campaign_core.specs.declared.row.Column.{Column}
+use Rattle.campaign_core.specs.declared.row.Row.{Row}
+use Rattle.campaign_core.specs.CampaignRow.{columns, heading_of, column_value, is_summed}
 
 -- ---- the heading
 

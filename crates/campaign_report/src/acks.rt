@@ -6,7 +6,7 @@ ghost use Rattle.campaign_report.specs.AcksText.{item_text, items_text};
 
 use crate::table::Agents;
 use agent_core::Agent;
-use campaign_gate::CaseAcks;
+use campaign_core::CaseAcks;
 use ccp_base::{Ack, Acks, Bytes, Name, Names, NoMemory, PRIMITIVE_NAMES, prim};
 use live_lines::put_flow_line;
 use std::alloc::Global;

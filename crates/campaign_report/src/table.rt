@@ -6,7 +6,7 @@ ghost use Rattle.campaign_report.specs.TableText.{table_text, values};
 
 use crate::total::put_total;
 use agent_core::Agent;
-use campaign_gate::{Column, Row, Rows};
+use campaign_core::{Column, Row, Rows};
 use ccp_base::{Bytes, Name, Names, NoMemory, Sequence};
 use live_lines::agent_text;
 use std::alloc::Global;

@@ -1,10 +1,10 @@
 //! The total of a campaign's table: the number of its rows, and the sums of columns.
 ghost use Rattle.std.specs.Prelude.{◌≡◌, ◌≤◌, ◌++◌, OnOk, length};
 ghost use Rattle.ccp_base.specs.Limits.{most_cases};
-ghost use Rattle.campaign_gate.specs.CampaignRow.{is_summed};
+ghost use Rattle.campaign_core.specs.CampaignRow.{is_summed};
 ghost use Rattle.campaign_report.specs.TableText.{column_sum, sum_text, sums, total_line};
 
-use campaign_gate::{Column, Row};
+use campaign_core::{Column, Row};
 use ccp_base::{Bytes, NoMemory};
 use std::alloc::Global;
 

@@ -1,8 +1,7 @@
 //! Runs of flows over one bottleneck with their books, which no mode prints.
 ghost use Rattle.std.specs.Prelude.{◌≡◌, ◌≤◌, IfOk, length, map};
 ghost use Rattle.ccp_base.specs.Limits.{most_flows, most_rounds};
-ghost use Rattle.scenario_json.specs.Cases.{plan_of, AreFlowsFrom};
-ghost use Rattle.scenario_json.specs.SharedScenes.{flow_link_of};
+ghost use Rattle.scene_core.specs.CasePlans.{plan_of, AreFlowsFrom, flow_link_of};
 ghost use Rattle.shared_link.specs.SharedLimits.{IsWithin};
 
 use ccp_base::{OpenGate, Workers};

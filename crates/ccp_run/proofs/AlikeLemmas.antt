@@ -25,7 +25,8 @@ use Rattle.flow_core.specs.LiveText.{source_at, account_of, flow_from, flow_line
 use Rattle.flow_core.specs.Words.{world, legal, is_complete}
 use Rattle.scene_members.specs.declared.plan.Plan.{Plan}
 use Rattle.agent_core.specs.Kinds.{agent_of, kind_of}
-use Rattle.scenario_json.specs.Cases.{coded_of, coded_at, plan_of, IsCoded, AreFlowsFrom}
+use Rattle.scene_core.specs.CasePlans.{plan_of, AreFlowsFrom}
+use Rattle.scenario_json.specs.Cases.{coded_of, coded_at, IsCoded}
 use Rattle.run_audit.specs.Audit.{IsWordOf, AreWordsOf, with_words}
 use Rattle.run_audit.specs.PartLeft.{body_text}
 use Rattle.ccp_run.specs.Timeline.{source_plan, planned_by}

@@ -12,7 +12,7 @@ use Rattle.fold_run.specs.Separated.{Cut, cut_of}
 use Rattle.campaign_report.specs.BooksRead.{flows_of}
 use Rattle.scene_members.specs.declared.mode.SceneMode.TheVariants as scene
 use Rattle.scene_members.specs.declared.plan.Plan.{Plan}
-use Rattle.scenario_json.specs.Cases.{plan_of}
+use Rattle.scene_core.specs.CasePlans.{plan_of}
 use Rattle.scenario_json.specs.Scene.{Scene, scene_with, scene_of}
 use Rattle.run_audit.specs.declared.verdict.Verdict.TheVariants.{Yes}
 use Rattle.run_audit.specs.Audit.{IsWordOf, IsLiveText}

@@ -4,7 +4,7 @@ use Rattle.std.specs.List.{All}
 use Rattle.reg_compiler.specs.declared.built.Built.{Built}
 use Rattle.flow_core.specs.declared.case.Case.{Case}
 use Rattle.flow_core.specs.LiveText.{source_at}
-use Rattle.campaign_gate.specs.CampaignRow.{case_row}
+use Rattle.campaign_core.specs.CampaignRow.{case_row}
 use Rattle.campaign_gate.specs.LiftedRow.{RowHoldsForSources}
 use Rattle.campaign_report.specs.BookText.{program_places}
 use Rattle.scenario_json.specs.Cases.{IsCoded, AreNumberedFrom}

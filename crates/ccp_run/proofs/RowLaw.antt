@@ -7,7 +7,7 @@ use Rattle.flow_core.specs.Books.{epoch_line}
 use Rattle.flow_core.specs.Readings.{Flow}
 use Rattle.flow_core.specs.Words.{world}
 use Rattle.flow_core.specs.World.{World}
-use Rattle.campaign_gate.specs.CampaignWord.{plan_over}
+use Rattle.campaign_core.specs.CampaignWord.{plan_over}
 use Rattle.ccp_run.specs.TextLaws.{TellsRows}
 
 pub rows_told : TellsRows

@@ -10,9 +10,9 @@ use Rattle.flow_core.specs.Cores.{CoreState}
 use Rattle.flow_core.specs.LiveText.{source_at, flow_from}
 use Rattle.flow_core.specs.Readings.{over_codes}
 use Rattle.campaign_report.specs.BookText.{program_places}
-use Rattle.scenario_json.specs.Cases.{plan_of, IsCoded, AreNumberedFrom}
+use Rattle.scene_core.specs.CasePlans.{plan_of, flow_link_of}
+use Rattle.scenario_json.specs.Cases.{IsCoded, AreNumberedFrom}
 use Rattle.reg_compiler.specs.Sources.{sources_of}
-use Rattle.scenario_json.specs.SharedScenes.{flow_link_of}
 use Rattle.shared_link.specs.declared.shared_case.SharedCase.{SharedCase}
 use Rattle.shared_link.specs.SharedLimits.{IsFlowWithin, IsWithin}
 use Rattle.shared_link.specs.SharedRounds.{acks_after}

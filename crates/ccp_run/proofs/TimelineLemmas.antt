@@ -11,7 +11,7 @@ use Rattle.flow_core.specs.Cells.{CellState, flow_at, world_at, IsComplete, Stat
 use Rattle.flow_core.specs.LiveText.{source_at}
 use Rattle.flow_table.specs.WholeBooks.{IsWholeBook}
 use Rattle.campaign_gate.specs.CampaignBooks.{IsCampaignBook, AreCampaignBooks, HasSourcePlan, acks_of_case}
-use Rattle.campaign_gate.specs.CampaignWord.{plan}
+use Rattle.campaign_core.specs.CampaignWord.{plan}
 use Rattle.campaign_report.specs.BookText.{program_places}
 use Rattle.campaign_report.specs.BooksRead.{flows_of}
 use Rattle.scenario_json.specs.Cases.{IsCoded, AreNumberedFrom}

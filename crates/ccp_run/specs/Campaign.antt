@@ -6,8 +6,8 @@ use Rattle.flow_core.specs.declared.case.Case.{Case}
 use Rattle.reg_compiler.specs.Sources.{Sources, sources_of}
 use Rattle.flow_core.specs.LiveText.{flow_from}
 use Rattle.reg_compiler.specs.declared.built.Built.{Built}
-use Rattle.campaign_gate.specs.declared.row.Row.{Row}
-use Rattle.campaign_gate.specs.CampaignRow.{row_read}
+use Rattle.campaign_core.specs.declared.row.Row.{Row}
+use Rattle.campaign_core.specs.CampaignRow.{row_read}
 use Rattle.campaign_report.specs.TableText.{table_text}
 use Rattle.campaign_report.specs.WireText.{wire_text}
 use Rattle.scene_members.specs.declared.mode.SceneMode.TheVariants as scene

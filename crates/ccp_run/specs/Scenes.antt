@@ -4,7 +4,8 @@ use Rattle.std.specs.List.{All}
 use Rattle.flow_core.specs.declared.case.Case.{Case}
 use Rattle.reg_compiler.specs.declared.built.Built.{Built}
 use Rattle.scene_members.specs.declared.mode.SceneMode.{SceneMode}
-use Rattle.scenario_json.specs.Cases.{plan_of, IsCoded, AreFlowsFrom}
+use Rattle.scene_core.specs.CasePlans.{plan_of, AreFlowsFrom}
+use Rattle.scenario_json.specs.Cases.{IsCoded}
 use Rattle.scenario_json.specs.Scene.{Scene, scene_with, scene_of}
 use Rattle.reg_compiler.specs.Sources.{sources_of}
 use Rattle.scenario_json.specs.declared.fault.SceneFault.{SceneFault}

@@ -7,8 +7,9 @@ use Rattle.flow_core.specs.declared.case.Case.{Case}
 use Rattle.flow_core.specs.LiveText.{flow_from}
 use Rattle.reg_compiler.specs.declared.built.Built.{Built}
 use Rattle.scenario_json.specs.declared.fault.SceneFault.{SceneFault}
-use Rattle.scenario_json.specs.declared.shared_scene.SharedScene.{SharedScene}
-use Rattle.scenario_json.specs.Cases.{plan_of, case_names, IsCoded, AreFlowsFrom}
+use Rattle.scene_core.specs.declared.scene.SharedScene.{SharedScene}
+use Rattle.scene_core.specs.CasePlans.{plan_of, AreFlowsFrom}
+use Rattle.scenario_json.specs.Cases.{case_names, IsCoded}
 use Rattle.scenario_json.specs.Scene.{scene_with}
 use Rattle.reg_compiler.specs.Sources.{sources_of}
 use Rattle.scenario_json.specs.SharedScenes.{SharedParts, shared_with, shared_scene_of}

@@ -3,7 +3,8 @@ use Rattle.std.specs.Prelude.{◌≡◌, ℕ, false, List, [], map}
 use Rattle.std.specs.List.{All}
 use Rattle.flow_core.specs.declared.case.Case.{Case}
 use Rattle.campaign_report.specs.TableText.{soak_text}
-use Rattle.scenario_json.specs.Cases.{plan_of, IsCoded, AreFlowsFrom}
+use Rattle.scene_core.specs.CasePlans.{plan_of, AreFlowsFrom}
+use Rattle.scenario_json.specs.Cases.{IsCoded}
 use Rattle.scenario_json.specs.Scene.{scene_with}
 use Rattle.reg_compiler.specs.Sources.{sources_of}
 use Rattle.scenario_json.specs.Soak.{gen}

@@ -13,9 +13,9 @@ use Rattle.flow_core.specs.Readings.{Flow}
 use Rattle.flow_core.specs.Words.{world}
 use Rattle.fold_run.specs.Acknowledgements.{acks_of_lines}
 use Rattle.fold_run.specs.Separated.{Cut}
-use Rattle.campaign_gate.specs.declared.row.Row.{Row}
-use Rattle.campaign_gate.specs.CampaignRow.{row_read}
-use Rattle.campaign_gate.specs.CampaignWord.{plan_over}
+use Rattle.campaign_core.specs.declared.row.Row.{Row}
+use Rattle.campaign_core.specs.CampaignRow.{row_read}
+use Rattle.campaign_core.specs.CampaignWord.{plan_over}
 use Rattle.campaign_report.specs.AcksText.{ack_lines}
 use Rattle.ccp_run.specs.declared.outcome.ModeOutput.{ModeOutput}
 use Rattle.ccp_run.specs.AuditRuns.{IsAuditCut, IsAuditOutput}

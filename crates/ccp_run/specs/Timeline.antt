@@ -7,7 +7,7 @@ use Rattle.flow_core.specs.declared.case.Case.{Case}
 use Rattle.flow_core.specs.declared.letter.Letter.{Letter}
 use Rattle.reg_compiler.specs.Sources.{Sources, sources_of}
 use Rattle.flow_core.specs.LiveText.{flow_from, live_text}
-use Rattle.campaign_gate.specs.CampaignWord.{plan_over}
+use Rattle.campaign_core.specs.CampaignWord.{plan_over}
 use Rattle.campaign_report.specs.BooksRead.{flows_of}
 use Rattle.scene_members.specs.declared.mode.SceneMode.TheVariants as scene
 use Rattle.ccp_run.specs.declared.outcome.ModeOutput.{ModeOutput}

@@ -2,7 +2,7 @@
 ghost use Rattle.std.specs.Prelude.{◌≡◌, IfOk, length};
 
 use agent_core::Agent;
-use campaign_gate::{Row, Rows};
+use campaign_core::{Row, Rows};
 use campaign_report::{Agents, table_text};
 use ccp_base::{Bytes, Look, Name, Names, Role};
 use cubic_agent::Cubic;

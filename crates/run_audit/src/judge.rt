@@ -13,7 +13,7 @@ use crate::verdict::Verdict;
 use ccp_base::NoMemory;
 use flow_core::Case;
 use reg_compiler::Builts;
-use scenario_json::Scenario;
+use scene_core::Scenario;
 use std::alloc::Global;
 
 /// Judges a text as the live text of a scenario, by the meaning of the programs' sources. The scenario has at most 64

@@ -5,7 +5,8 @@ use Rattle.std.specs.List.{All}
 use Rattle.reg_compiler.specs.declared.built.Built.{Built}
 use Rattle.flow_core.specs.declared.case.Case.{Case}
 use Rattle.scene_members.specs.declared.plan.Plan.{Plan}
-use Rattle.scenario_json.specs.Cases.{plan_of, case_names, IsCoded, AreFlowsFrom}
+use Rattle.scene_core.specs.CasePlans.{plan_of, AreFlowsFrom}
+use Rattle.scenario_json.specs.Cases.{case_names, IsCoded}
 use Rattle.scene_members.proofs.ListLemmas.{all_pushed}
 
 -- these cases are put together of the plans but for those that are left

@@ -1,4 +1,4 @@
--- What the cases of a scenario are: what they say, with agents in their initial state and the codes of their
+-- What the cases of a scenario are beside what they say: agents in their initial state and the codes of their
 -- programs.
 use Rattle.std.specs.Prelude.{◌≡◌, ℕ, ◌+◌, Option, Some, option_map, List, [], ◌∷◌, map, slice_get, ⊤}
 use Rattle.portus_core.specs.ProgramForm.{form_of}
@@ -7,8 +7,6 @@ use Rattle.portus_build.specs.Looks.{look_of}
 use Rattle.agent_core.specs.Kinds.{agent_of, kind_of}
 use Rattle.flow_core.specs.declared.case.Coded.{Coded}
 use Rattle.flow_core.specs.declared.case.Case.{Case}
-use Rattle.scene_members.specs.declared.plan.Plan.{Plan}
-use Rattle.scene_members.specs.Plans.{numbers_of}
 
 -- a built program as an agent's role has it: its number, where it keeps what agents read and write, and its code
 abbrev pub coded_of : ℕ → ℕ × Built → Coded
@@ -21,18 +19,6 @@ coded_of number one = record {
 abbrev pub coded_at : List (ℕ × Built) → ℕ → Option Coded
 coded_at programs number = option_map (coded_of number) (slice_get programs number)
 
--- what a case says
-abbrev pub plan_of : Case → Plan
-plan_of case = record {
-  name = case.name;
-  kind = kind_of case.agent;
-  trace = case.link.trace;
-  link_numbers = numbers_of case.link case.acks;
-  agent_numbers = record { slots = case.slots; lag = case.lag };
-  loss_plan = record { losses = case.link.losses; mark = case.link.mark };
-  programs = record { ss = case.ss.role.number; ca = case.ca.role.number };
-}
-
 -- a case's codes are those of its programs, and its agent is in its initial state
 pub record IsCoded (programs : List (ℕ × Built)) (case : Case) : Type 0 where
   pub ss : coded_at programs case.ss.role.number ≡ Some case.ss
@@ -42,11 +28,6 @@ pub record IsCoded (programs : List (ℕ × Built)) (case : Case) : Type 0 where
 -- the names of cases, in order
 abbrev pub case_names : List Case → List (List ℕ)
 case_names cases = map (λ case. case.name) cases
-
--- the cases are those of the flows from this number on, in order
-abbrev pub AreFlowsFrom : ℕ → List Case → Type 0
-AreFlowsFrom flow [] = ⊤
-AreFlowsFrom flow (case ∷ rest) = (case.flow ≡ flow) × AreFlowsFrom (flow + 1) rest
 
 -- the programs have the numbers from this one on, in order
 abbrev pub AreNumberedFrom : ℕ → List (ℕ × Built) → Type 0

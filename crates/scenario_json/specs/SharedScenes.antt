@@ -1,8 +1,8 @@
 -- A scenario of flows on one shared link: the scene of a live run with what the link is, or the first refusal.
 use Rattle.std.specs.Prelude.{ℕ, Result, Ok, List, map}
 use Rattle.ccp_base.specs.Chaining.{then_do}
-use Rattle.shared_link.specs.declared.shared_case.FlowLink.{FlowLink}
 use Rattle.shared_link.specs.declared.shared_case.SharedCase.{SharedCase}
+use Rattle.scene_core.specs.CasePlans.{flow_link_of}
 use Rattle.scene_members.specs.declared.mode.SceneMode.TheVariants.{Live}
 use Rattle.scene_members.specs.declared.plan.Plan.{Plan}
 use Rattle.scene_members.specs.declared.shared.Shares.{Shares}
@@ -22,16 +22,6 @@ abbrev pub shared_with : Scene → SharedCase → ℕ → SharedParts
 shared_with scene link rounds = record { scene = scene; link = link; rounds = rounds }
 
 -- ---- the link
-
--- what a flow has of its own on the link; its case's trace and queue aren't used
-abbrev pub flow_link_of : Plan → FlowLink
-flow_link_of plan = record {
-  mss = plan.link_numbers.mss;
-  delay_us = plan.link_numbers.delay_us;
-  timeout_us = plan.link_numbers.timeout_us;
-  losses = plan.loss_plan.losses;
-  mark = plan.loss_plan.mark;
-}
 
 abbrev pub shared_case : Shares → List Plan → SharedCase
 shared_case shares plans = record {

@@ -9,7 +9,8 @@ ghost use Rattle.reg_compiler.specs.Simulation.{Simulates};
 ghost use Rattle.agent_core.specs.Kinds.{agent_of, kind_of};
 ghost use Rattle.flow_core.specs.Cases.{KeepsWithin, AreOne};
 ghost use Rattle.scene_members.specs.Plans.{IsPlan, AreLinkNumbers, AreAgentNumbers};
-ghost use Rattle.scenario_json.specs.Cases.{coded_of, coded_at, plan_of, IsCoded};
+ghost use Rattle.scene_core.specs.CasePlans.{plan_of};
+ghost use Rattle.scenario_json.specs.Cases.{coded_of, coded_at, IsCoded};
 
 use ccp_base::{NoMemory, Role, Sequence};
 use flow_core::{Case, Coded};

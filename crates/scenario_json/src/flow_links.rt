@@ -1,7 +1,6 @@
 //! How each case of a scenario becomes a flow's part of the shared link.
 ghost use Rattle.std.specs.Prelude.{◌≡◌, IfOk, map};
-ghost use Rattle.scenario_json.specs.Cases.{plan_of};
-ghost use Rattle.scenario_json.specs.SharedScenes.{flow_link_of};
+ghost use Rattle.scene_core.specs.CasePlans.{plan_of, flow_link_of};
 
 use ccp_base::{NoMemory, Sequence};
 use flow_core::Case;

@@ -10,10 +10,8 @@ mod parsed_scene;
 mod refusal;
 mod scenario;
 mod scene_programs;
-mod shared_scene;
 
 pub use fault::SceneFault;
 pub use refusal::put_scene_refusal;
-pub use scenario::Scenario;
+pub use scene_core::{Scenario, SharedScene};
 pub use scene_members::{OpenCase, OpenCases, Path, SceneMode};
-pub use shared_scene::SharedScene;

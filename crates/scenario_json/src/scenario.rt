@@ -1,24 +1,18 @@
-//! The scenario that is run, and how it is put together from programs and plans.
+//! How the scenario that is run is put together from programs and plans.
 ghost use Rattle.std.specs.Prelude.{◌≡◌, ◌≤◌, [], IfOk, OnOk, length, map};
 ghost use Rattle.std.specs.List.{All};
 ghost use Rattle.ccp_base.specs.Limits.{most_cases};
 ghost use Rattle.scene_members.specs.Plans.{IsPlan};
-ghost use Rattle.scenario_json.specs.Cases.{plan_of, case_names, IsCoded, AreFlowsFrom};
+ghost use Rattle.scene_core.specs.CasePlans.{plan_of, AreFlowsFrom};
+ghost use Rattle.scenario_json.specs.Cases.{case_names, IsCoded};
 
 use crate::cases::case;
 use ccp_base::{Names, NoMemory, Sequence};
 use flow_core::Case;
 use reg_compiler::{Built, Builts};
+use scene_core::Scenario;
 use scene_members::Plans;
 use std::alloc::Global;
-
-/// What is run: all programs with their numbers, and the cases with their names, in order. Case i is flow i.
-#[derive(Drop)]
-pub struct Scenario {
-    pub programs: Builts,
-    pub names: Names,
-    pub cases: Sequence<Case>,
-}
 
 /// Puts the cases of plans into an empty list, and their names into another.
 #[tactic(auto, using(scene_members::proofs::ListLemmas::all_pushed))]

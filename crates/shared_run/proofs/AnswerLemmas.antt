@@ -3,7 +3,7 @@ use Rattle.std.specs.Prelude.{◌≡◌, ◌<◌, ◌≤◌, ℕ, zero, suc, ◌
 use Rattle.std.specs.List.{All}
 use Rattle.std.proofs.Common.{arith, ap, sym, ◌∙◌, length-append}
 use Rattle.ccp_base.specs.declared.ack.Ack.{Ack}
-use Rattle.campaign_gate.proofs.BoundLemmas.{lost-most, flight-most}
+use Rattle.campaign_core.proofs.BoundLemmas.{lost-most, flight-most}
 use Rattle.link_model.specs.Link.{Packet, GivenAck, packet_and_lost_below, Numbered, Next, arrives, all_lost, in_flight}
 use Rattle.shared_link.specs.declared.round.Ask.{Ask}
 use Rattle.shared_link.specs.declared.shared_case.FlowLink.{FlowLink}

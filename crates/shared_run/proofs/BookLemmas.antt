@@ -6,8 +6,8 @@ use Rattle.flow_core.specs.declared.book.Given.{Given}
 use Rattle.flow_core.specs.Readings.{over_codes}
 use Rattle.flow_core.specs.Words.{is_still}
 use Rattle.flow_core.specs.Cores.{CoreState}
-use Rattle.campaign_gate.specs.declared.tally.Tally.{Tally}
-use Rattle.campaign_gate.specs.declared.row.Row.{Row}
+use Rattle.campaign_core.specs.declared.tally.Tally.{Tally}
+use Rattle.campaign_core.specs.declared.row.Row.{Row}
 use Rattle.shared_run.specs.RoundLetters.{world_of_core, closed_flow}
 use Rattle.shared_run.specs.FlowRow.{flow_row}
 use Rattle.shared_run.specs.RoundFlows.{HasAllAcks, HaveAllAcks, kept_at, IsAfterHistory}

@@ -6,7 +6,7 @@ use Rattle.ccp_base.specs.declared.ack.Ack.{Ack}
 use Rattle.flow_core.specs.declared.case.Case.{Case}
 use Rattle.flow_core.specs.Readings.{over_codes}
 use Rattle.flow_core.specs.Cores.{CoreState}
-use Rattle.campaign_gate.specs.declared.tally.Tally.{Tally}
+use Rattle.campaign_core.specs.declared.tally.Tally.{Tally}
 use Rattle.shared_link.specs.declared.round.Ask.{Ask}
 use Rattle.shared_link.specs.declared.shared_case.SharedCase.{SharedCase}
 use Rattle.shared_run.specs.RoundLetters.{opened, round_part, closed_flow}

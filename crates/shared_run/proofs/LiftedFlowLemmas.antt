@@ -16,9 +16,9 @@ use Rattle.flow_core.specs.States.{some_count}
 use Rattle.flow_core.specs.Lift.{Placing, place_in, map_failure, map_taken, map_world}
 use Rattle.flow_core.specs.LettersLeft.{letters_left}
 use Rattle.flow_core.proofs.LiftLemmas.{lift}
-use Rattle.campaign_gate.specs.CampaignWord.{is_answer_due}
-use Rattle.campaign_gate.specs.CampaignRow.{window_of, row_over}
-use Rattle.campaign_gate.proofs.SourceReadings.{late-placed, some-placed, none-placed, can-placed, track-placed, row-placed}
+use Rattle.campaign_core.specs.CampaignWord.{is_answer_due}
+use Rattle.campaign_core.specs.CampaignRow.{window_of, row_over}
+use Rattle.campaign_core.proofs.SourceReadings.{late-placed, some-placed, none-placed, can-placed, track-placed, row-placed}
 use Rattle.shared_run.specs.LiftedFlow.{FlowHoldsForSources}
 use Rattle.shared_run.proofs.LikeFlows.{AreLike, alike}
 

@@ -10,8 +10,8 @@ use Rattle.flow_core.specs.World.{World}
 use Rattle.flow_core.specs.Words.{from_list, world_over, is_legal}
 use Rattle.flow_core.specs.WordLaws.{world_over-append}
 use Rattle.flow_core.specs.Cores.{CoreState, with_ack}
-use Rattle.campaign_gate.specs.CampaignWord.{is_answer_due, first_letter}
-use Rattle.campaign_gate.specs.CampaignRow.{window_of, peak_from, row_over}
+use Rattle.campaign_core.specs.CampaignWord.{is_answer_due, first_letter}
+use Rattle.campaign_core.specs.CampaignRow.{window_of, peak_from, row_over}
 use Rattle.flow_core.specs.LettersLeft.{letters_left}
 use Rattle.shared_run.specs.RoundLetters.{CaseReading, settling_letter, with_next, settled_in, after_settling, with_settled_ack, round_part}
 use Rattle.shared_run.specs.FlowRow.{peak_of}

@@ -9,7 +9,7 @@ use Rattle.flow_core.specs.World.{World, opening, after_ack, after_take, after_a
 use Rattle.flow_core.specs.Words.{from_list, with_given}
 use Rattle.flow_core.specs.WordLaws.{acks_in}
 use Rattle.flow_core.proofs.WordLemmas.{take-keeps, answer-keeps, next-given}
-use Rattle.campaign_gate.specs.CampaignRow.{window_of, peak_from}
+use Rattle.campaign_core.specs.CampaignRow.{window_of, peak_from}
 
 module _ {X : Type 0} (flow : Flow X) where
   peak-more-from : (acks more : List Ack) (word : List Letter) (w : World X) (rest : List Ack)

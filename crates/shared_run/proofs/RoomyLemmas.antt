@@ -5,7 +5,7 @@ use Rattle.ccp_base.specs.declared.ack.Ack.{Ack}
 use Rattle.flow_core.specs.declared.case.Case.{Case}
 use Rattle.flow_core.specs.Readings.{over_codes}
 use Rattle.flow_core.specs.Cores.{CoreState}
-use Rattle.campaign_gate.specs.CampaignRow.{lost_in, acked_in}
+use Rattle.campaign_core.specs.CampaignRow.{lost_in, acked_in}
 use Rattle.shared_link.specs.declared.shared_case.SharedCase.{SharedCase}
 use Rattle.shared_link.specs.SharedLimits.{IsWithin}
 use Rattle.shared_link.specs.SharedRounds.{acks_after}

@@ -18,14 +18,14 @@ use Rattle.flow_core.specs.Bares.{BareState}
 use Rattle.flow_core.proofs.MappedLemmas.{count-mapped}
 use Rattle.flow_core.proofs.SummaryLemmas.{summary-ack, summary-take, summary-answer, summary-legal}
 use Rattle.flow_core.proofs.WordLemmas.{acks-of-world_over, world_over-A}
-use Rattle.campaign_gate.specs.declared.tally.Tally.{Tally}
-use Rattle.campaign_gate.specs.declared.row.Row.{Row}
-use Rattle.campaign_gate.specs.declared.sums.Sums.{Sums}
-use Rattle.campaign_gate.specs.CampaignRow.{timeouts_in, sums_of, sums_with, row_in, window_of}
-use Rattle.campaign_gate.specs.CampaignRow as campaign
-use Rattle.campaign_gate.specs.CaseRuns.{left_in}
-use Rattle.campaign_gate.proofs.PeakLemmas.{peak-append}
-use Rattle.campaign_gate.proofs.SumLemmas.{sums-append, timeout-one}
+use Rattle.campaign_core.specs.declared.tally.Tally.{Tally}
+use Rattle.campaign_core.specs.declared.row.Row.{Row}
+use Rattle.campaign_core.specs.declared.sums.Sums.{Sums}
+use Rattle.campaign_core.specs.CampaignRow.{timeouts_in, sums_of, sums_with, row_in, window_of}
+use Rattle.campaign_core.specs.CampaignRow as campaign
+use Rattle.campaign_core.specs.BareLetters.{left_in}
+use Rattle.campaign_core.proofs.PeakLemmas.{peak-append}
+use Rattle.campaign_core.proofs.SumLemmas.{sums-append, timeout-one}
 use Rattle.shared_link.specs.declared.round.Ask.{Ask}
 use Rattle.shared_run.specs.RoundLetters.{world_of_core, with_letter, answers_next, after_settling, with_settled_ack, round_part}
 use Rattle.shared_run.specs.SharedHistory.{ask_of}

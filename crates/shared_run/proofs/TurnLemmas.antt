@@ -8,8 +8,8 @@ use Rattle.flow_core.specs.World.{World}
 use Rattle.flow_core.specs.Words.{from_list, after_letter, can_take, is_legal, is_still}
 use Rattle.flow_core.specs.WordLaws.{acks_in, acks_in-A, acks_in-T, acks_in-C, world_over-append}
 use Rattle.flow_core.specs.Cores.{CoreState, with_ack}
-use Rattle.campaign_gate.specs.CampaignWord.{first_letter}
-use Rattle.campaign_gate.proofs.PlanLemmas.{MadeBy, IsMade, made, due-out, still}
+use Rattle.campaign_core.specs.CampaignWord.{first_letter}
+use Rattle.campaign_core.proofs.PlanLemmas.{MadeBy, IsMade, made, due-out, still}
 use Rattle.flow_core.specs.LettersLeft.{letters_left}
 use Rattle.flow_core.proofs.LeftLemmas.{left-letter}
 use Rattle.shared_run.specs.RoundLetters.{CaseReading, world_of_core, with_letter, answers_next, settling_letter, with_next, settled_in, after_settling, with_settled_ack, round_part}

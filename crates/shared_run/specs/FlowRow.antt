@@ -4,8 +4,8 @@ use Rattle.ccp_base.specs.declared.ack.Ack.{Ack}
 use Rattle.flow_core.specs.World.{opening}
 use Rattle.flow_core.specs.Words.{from_list}
 use Rattle.flow_core.specs.Cores.{CoreState}
-use Rattle.campaign_gate.specs.declared.row.Row.{Row}
-use Rattle.campaign_gate.specs.CampaignRow.{lost_in, acked_in, peak_from, row_over}
+use Rattle.campaign_core.specs.declared.row.Row.{Row}
+use Rattle.campaign_core.specs.CampaignRow.{lost_in, acked_in, peak_from, row_over}
 use Rattle.shared_run.specs.RoundLetters.{CaseReading, world_of_core}
 
 -- the greatest `Cwnd` of a flow at its opening or after a letter

@@ -8,7 +8,7 @@ use Rattle.flow_core.specs.declared.case.Case.{Case}
 use Rattle.flow_core.specs.declared.letter.Letter.{Letter}
 use Rattle.flow_core.specs.Readings.{over_codes, over_sources}
 use Rattle.flow_core.specs.Cores.{CoreState}
-use Rattle.campaign_gate.specs.CampaignRow.{window_of}
+use Rattle.campaign_core.specs.CampaignRow.{window_of}
 use Rattle.shared_run.specs.RoundLetters.{CaseReading, world_of_core, round_part, closed_flow}
 use Rattle.shared_run.specs.FlowRow.{flow_row}
 

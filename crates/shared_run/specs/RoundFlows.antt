@@ -11,8 +11,8 @@ use Rattle.flow_core.specs.WordLaws.{acks_in}
 use Rattle.flow_core.specs.Cores.{CoreState}
 use Rattle.flow_core.specs.Summaries.{summary}
 use Rattle.flow_core.specs.Bares.{BareState}
-use Rattle.campaign_gate.specs.declared.tally.Tally.{Tally}
-use Rattle.campaign_gate.specs.CampaignRow.{sums_of}
+use Rattle.campaign_core.specs.declared.tally.Tally.{Tally}
+use Rattle.campaign_core.specs.CampaignRow.{sums_of}
 use Rattle.shared_link.specs.declared.shared_case.SharedCase.{SharedCase}
 use Rattle.shared_run.specs.RoundLetters.{world_of_core, with_letter, settling_letter}
 use Rattle.shared_run.specs.FlowRow.{peak_of, AreRoomy}

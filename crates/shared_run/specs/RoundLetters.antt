@@ -8,7 +8,7 @@ use Rattle.flow_core.specs.Readings.{Flow}
 use Rattle.flow_core.specs.World.{World}
 use Rattle.flow_core.specs.Words.{world_over, is_legal}
 use Rattle.flow_core.specs.Cores.{CoreState, with_ack}
-use Rattle.campaign_gate.specs.CampaignWord.{is_answer_due, first_letter}
+use Rattle.campaign_core.specs.CampaignWord.{is_answer_due, first_letter}
 use Rattle.flow_core.specs.LettersLeft.{letters_left}
 
 -- a reading of cases: over their codes, or over the sources of programs

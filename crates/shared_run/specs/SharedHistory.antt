@@ -4,8 +4,8 @@ use Rattle.std.specs.Prelude.{List, [], ◌∷◌, ◌++◌, length, map}
 use Rattle.ccp_base.specs.declared.ack.Ack.{Ack}
 use Rattle.flow_core.specs.declared.case.Case.{Case}
 use Rattle.flow_core.specs.Cores.{CoreState}
-use Rattle.campaign_gate.specs.declared.row.Row.{Row}
-use Rattle.campaign_gate.specs.CampaignRow.{window_of}
+use Rattle.campaign_core.specs.declared.row.Row.{Row}
+use Rattle.campaign_core.specs.CampaignRow.{window_of}
 use Rattle.shared_run.specs.RoundLetters.{CaseReading, world_of_core, opened, round_part, closed_flow}
 use Rattle.shared_run.specs.FlowRow.{flow_row}
 use Rattle.shared_link.specs.declared.round.Ask.{Ask}

@@ -11,7 +11,7 @@ ghost use Rattle.shared_run.specs.RoundFlows.{kept_at, HaveAllAcks};
 
 use crate::flow::SharedFlow;
 use crate::round_flow::RoundFlow;
-use campaign_gate::Rows;
+use campaign_core::Rows;
 use ccp_base::{NoMemory, Sequence};
 use flow_core::{Core, Given};
 use shared_link::Counts;

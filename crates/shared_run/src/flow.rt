@@ -12,7 +12,7 @@ ghost use Rattle.shared_run.specs.SharedBooks.{IsGivenOf};
 ghost use Rattle.shared_run.specs.RoundFlows.{MayMake, IsAfterHistory, HasHistory, MayHear, Goes, Took, MakesNext};
 
 use crate::round_flow::RoundFlow;
-use campaign_gate::{Row, Tally, is_due};
+use campaign_core::{Row, Tally, is_due};
 use ccp_base::NoMemory;
 use flow_core::{Case, Core, Given, Letter};
 use shared_link::{Ask, PackedAck};

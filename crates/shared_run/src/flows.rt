@@ -12,7 +12,7 @@ use crate::known_flow::KnownFlow;
 use crate::round_acks::RoundAcks;
 use crate::round_flow::RoundFlow;
 use crate::run_flow::{LockedRunFlow, RunFlow};
-use campaign_gate::Cases;
+use campaign_core::Cases;
 use ccp_base::NoMemory;
 use crossbeam_utils::CachePadded;
 use shared_link::Ask;

@@ -3,8 +3,8 @@ ghost use Rattle.std.specs.Prelude.{◌≡◌, ◌≤◌, ◌++◌, [], OnOk, If
 ghost use Rattle.std.specs.List.{All};
 ghost use Rattle.ccp_base.specs.Limits.{most_cases, most_flows, most_rounds};
 ghost use Rattle.campaign_report.specs.TableText.{table_text};
-ghost use Rattle.scenario_json.specs.Cases.{plan_of, case_names, IsCoded, AreFlowsFrom, AreNumberedFrom};
-ghost use Rattle.scenario_json.specs.SharedScenes.{flow_link_of};
+ghost use Rattle.scene_core.specs.CasePlans.{plan_of, AreFlowsFrom, flow_link_of};
+ghost use Rattle.scenario_json.specs.Cases.{case_names, IsCoded, AreNumberedFrom};
 ghost use Rattle.shared_link.specs.SharedLimits.{IsWithin};
 ghost use Rattle.ccp_run.specs.Attempts.{IsOutputOrRefusal, IsAttempt};
 ghost use Rattle.ccp_run.specs.Shared.{IsSharedScenario, StopsShared, link_line, text_of_scene};

@@ -2,9 +2,9 @@ use Rattle.std.proofs.Common.{◌≡◌, sym, ap, ◌∙◌, subst}
 use Rattle.flow_core.specs.Words.{legal}
 use Rattle.flow_core.specs.Books.{IsBookOf}
 use Rattle.flow_core.specs.Cells.{CellState, flow_at, world_at, IsComplete, StateHoldsForSources}
-use Rattle.campaign_gate.specs.CampaignWord.{plan}
+use Rattle.campaign_core.specs.CampaignWord.{plan}
 use Rattle.campaign_gate.specs.CampaignBooks.{planned}
-use Rattle.campaign_gate.proofs.PlanLemmas.{plan-is-complete}
+use Rattle.campaign_core.proofs.PlanLemmas.{plan-is-complete}
 use Rattle.campaign_gate.proofs.calls.book_of.Goals as goal
 
 pub finish-requires : goal.finish-requires

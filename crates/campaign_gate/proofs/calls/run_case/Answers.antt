@@ -1,4 +1,4 @@
-use Rattle.campaign_gate.proofs.PlanLemmas.{plan-is-legal, plan-is-complete}
+use Rattle.campaign_core.proofs.PlanLemmas.{plan-is-legal, plan-is-complete}
 use Rattle.campaign_gate.proofs.LiftedRowLemmas.{lifted}
 use Rattle.campaign_gate.proofs.calls.run_case.Goals as goal
 

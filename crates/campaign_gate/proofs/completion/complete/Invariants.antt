@@ -1,5 +1,6 @@
 use Rattle.std.proofs.Common.{◌≡◌}
-use Rattle.campaign_gate.specs.CaseRuns.{left_in, IsOnWay}
+use Rattle.campaign_core.specs.BareLetters.{left_in}
+use Rattle.campaign_gate.specs.CaseRuns.{IsOnWay}
 use Rattle.campaign_gate.proofs.completion.complete.Given as goal
 
 abbrev pub invariant-loop-letter : goal.invariant-loop-letter

@@ -1,6 +1,5 @@
 use Rattle.std.proofs.Common.{◌≡◌, ◌++◌, length, map}
-use Rattle.scenario_json.specs.Cases.{plan_of}
-use Rattle.scenario_json.specs.SharedScenes.{flow_link_of}
+use Rattle.scene_core.specs.CasePlans.{plan_of, flow_link_of}
 use Rattle.scenario_json.proofs.flow_links.flow_links.Given as goal
 
 abbrev pub invariant-loop-case : goal.invariant-loop-case

@@ -6,7 +6,8 @@ use Rattle.std.specs.Vec.Iter.{into_iter_items}
 use Rattle.flow_core.specs.declared.case.Case.{Case}
 use Rattle.scene_members.specs.declared.plan.Plan.{Plan}
 use Rattle.scene_members.specs.Plans.{IsPlan}
-use Rattle.scenario_json.specs.Cases.{plan_of, IsCoded}
+use Rattle.scene_core.specs.CasePlans.{plan_of}
+use Rattle.scenario_json.specs.Cases.{IsCoded}
 use Rattle.scenario_json.proofs.SceneLemmas.{ArePut, put_step}
 use Rattle.scenario_json.proofs.scenario.put_cases.Goals as goal
 

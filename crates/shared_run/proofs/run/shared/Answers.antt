@@ -1,7 +1,7 @@
 use Rattle.std.proofs.Common.{◌≡◌, List, map, ap, sym, ◌∙◌, subst}
 use Rattle.flow_core.specs.Cores.{CoreState}
 use Rattle.flow_core.specs.Readings.{over_codes}
-use Rattle.campaign_gate.specs.declared.tally.Tally.{Tally}
+use Rattle.campaign_core.specs.declared.tally.Tally.{Tally}
 use Rattle.shared_run.specs.declared.flow.SharedFlow.{SharedFlow}
 use Rattle.shared_run.specs.SharedHistory.{flows_at_end}
 use Rattle.shared_run.specs.SharedBooks.{AreGivensOf}

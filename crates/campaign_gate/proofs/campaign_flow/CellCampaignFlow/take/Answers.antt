@@ -3,7 +3,7 @@ use Rattle.std.specs.Prelude.{is_none}
 use Rattle.flow_core.specs.declared.letter.Letter.TheVariants.{T}
 use Rattle.flow_core.specs.Words.{can_take, is_legal}
 use Rattle.flow_core.specs.Cells.{CellState, flow_at, world_at}
-use Rattle.campaign_gate.proofs.PlanLemmas.{takes-not-still, takes-not-out}
+use Rattle.campaign_core.proofs.PlanLemmas.{takes-not-still, takes-not-out}
 use Rattle.campaign_gate.proofs.campaign_flow.CellCampaignFlow.take.Goals as goal
 
 pub unreachable-requires : goal.unreachable-requires

@@ -1,7 +1,7 @@
 use Rattle.std.proofs.Common.{◌≡◌, ◌∙◌, ◌≤◌, ℕ, ◌++◌, map, length, rules, ap, sym, subst}
 use Rattle.std.proofs.lemmas.List.{length-map}
 use Rattle.ccp_base.specs.Limits.{most_cases}
-use Rattle.campaign_gate.specs.CampaignRow.{case_row}
+use Rattle.campaign_core.specs.CampaignRow.{case_row}
 use Rattle.campaign_report.specs.TableText.{table_text}
 use Rattle.scenario_json.specs.Cases.{case_names}
 use Rattle.ccp_run.specs.Campaign.{case_agents, source_rows, frames_shown}

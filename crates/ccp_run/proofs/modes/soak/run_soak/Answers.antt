@@ -1,9 +1,10 @@
 use Rattle.std.proofs.Common.{◌≡◌, ◌∙◌, ℕ, List, map, rules, ap, sym, subst}
 use Rattle.std.specs.List.{All}
 use Rattle.reg_compiler.specs.declared.built.Built.{Built}
-use Rattle.campaign_gate.specs.CampaignRow.{case_row}
+use Rattle.campaign_core.specs.CampaignRow.{case_row}
 use Rattle.campaign_report.specs.TableText.{soak_text}
-use Rattle.scenario_json.specs.Cases.{plan_of, IsCoded}
+use Rattle.scene_core.specs.CasePlans.{plan_of}
+use Rattle.scenario_json.specs.Cases.{IsCoded}
 use Rattle.scenario_json.specs.Scene.{scene_with}
 use Rattle.reg_compiler.specs.Sources.{sources_of}
 use Rattle.scenario_json.specs.Soak.{gen}

@@ -1,5 +1,5 @@
 use Rattle.flow_core.specs.Readings.{over_codes}
-use Rattle.campaign_gate.specs.CaseRuns.{left_in}
+use Rattle.campaign_core.specs.BareLetters.{left_in}
 use Rattle.shared_run.specs.RoundLetters.{after_settling}
 use Rattle.shared_run.specs.RoundFlows.{HasHistory}
 use Rattle.shared_run.proofs.RoundFlowLemmas.{GoesOn}

@@ -8,7 +8,7 @@ use Rattle.flow_core.specs.declared.letter.Letter.TheVariants.{A, T, C}
 use Rattle.flow_core.specs.Readings.{Flow, over_codes}
 use Rattle.flow_core.specs.World.{Taken, World, opening}
 use Rattle.flow_core.specs.Words.{from_link, after_letter, world_from, world, can_take, is_legal, legal_from, legal, is_complete, most_letters}
-use Rattle.campaign_gate.specs.CampaignWord.{is_late, is_answer_due, first_letter, next_of, then_rest, plan_from, plan_over, plan}
+use Rattle.campaign_core.specs.CampaignWord.{is_late, is_answer_due, first_letter, next_of, then_rest, plan_from, plan_over, plan}
 use Rattle.flow_core.specs.LettersLeft.{letters_left}
 use Rattle.flow_core.proofs.LeftLemmas.{left-letter}
 

@@ -3,13 +3,13 @@ use Rattle.std.specs.Prelude.{◌≡◌, ℕ, zero, suc, ◌+◌, ◌-◌, ◌*�
 use Rattle.std.proofs.Common.{arith, sym, ◌∙◌, subst}
 use Rattle.ccp_base.specs.declared.ack.Ack.{Ack}
 use Rattle.link_model.specs.declared.link_case.LinkCase.{LinkCase}
-use Rattle.campaign_gate.proofs.BoundLemmas.{lost-most, flight-most}
+use Rattle.campaign_core.proofs.BoundLemmas.{lost-most, flight-most}
 use Rattle.link_model.specs.Link.{Packet, Numbered, GivenAck, Run, packet_and_lost_below, time_of, Next, arrives, all_lost, allowance, packet_after, with_sent, in_flight, next_arrival, answer_by, given_for, sent_by, called, run_from, run_of, acks_in_order, acks_for_windows}
 use Rattle.flow_core.specs.declared.letter.Letter.{Letter}
 use Rattle.flow_core.specs.Readings.{Flow}
 use Rattle.flow_core.specs.Words.{world}
 use Rattle.flow_core.proofs.LinkWordLemmas.{acks-of-world, length-world, length-windows}
-use Rattle.campaign_gate.specs.CampaignRow.{lost_in, timeouts_in, acked_in, sums_of, sums_with, AreRoomy}
+use Rattle.campaign_core.specs.CampaignRow.{lost_in, timeouts_in, acked_in, sums_of, sums_with, AreRoomy}
 
 -- ---- one more acknowledgement
 

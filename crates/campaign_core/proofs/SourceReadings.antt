@@ -18,8 +18,8 @@ use Rattle.flow_core.specs.Summaries.{Summary, summary}
 use Rattle.flow_core.proofs.MappedLemmas.{some-mapped, none-mapped}
 pub use Rattle.flow_core.proofs.PlacedParts.{can-placed}
 pub use Rattle.flow_core.proofs.LiftLemmas.{track-placed}
-use Rattle.campaign_gate.specs.CampaignWord.{is_late}
-use Rattle.campaign_gate.specs.CampaignRow.{sums_of, row_in, row_over}
+use Rattle.campaign_core.specs.CampaignWord.{is_late}
+use Rattle.campaign_core.specs.CampaignRow.{sums_of, row_in, row_over}
 
 -- ---- what an instruction's place doesn't change
 

@@ -9,12 +9,11 @@ use Rattle.flow_core.specs.Readings.{Flow, over_codes}
 use Rattle.flow_core.specs.World.{World, opening, track_of}
 use Rattle.flow_core.specs.Words.{Giving, from_link, after_letter, world}
 use Rattle.flow_core.specs.Summaries.{Summary, summary}
-use Rattle.campaign_gate.specs.declared.sums.Sums.{Sums}
-use Rattle.campaign_gate.specs.declared.row.Row.{Row}
-use Rattle.campaign_gate.specs.declared.row.Column.{Column}
-use Rattle.campaign_gate.specs.declared.row.Column.TheVariants.{Acks, Reports, Held, Faults, Epochs, Lost}
-use Rattle.campaign_gate.specs.declared.row.Column.TheVariants.{Timeouts, Acked, Peak, Cwnd, Now, Tail}
-use Rattle.campaign_gate.specs.CampaignWord.{plan_over}
+use Rattle.campaign_core.specs.declared.sums.Sums.{Sums}
+use Rattle.campaign_core.specs.declared.row.Row.{Row}
+use Rattle.campaign_core.specs.declared.row.Column.{Column}
+use Rattle.campaign_core.specs.declared.row.Column.TheVariants.{Acks, Reports, Held, Faults, Epochs, Lost, Timeouts, Acked, Peak, Cwnd, Now, Tail}
+use Rattle.campaign_core.specs.CampaignWord.{plan_over}
 
 -- ---- sums over acknowledgements
 

@@ -5,7 +5,7 @@ use Rattle.flow_core.specs.declared.letter.Letter.{Letter}
 use Rattle.flow_core.specs.Readings.{Flow}
 use Rattle.flow_core.specs.World.{World}
 use Rattle.flow_core.specs.Words.{Giving, after_letter, world_from}
-use Rattle.campaign_gate.specs.CampaignRow.{window_of, peak_from}
+use Rattle.campaign_core.specs.CampaignRow.{window_of, peak_from}
 
 max-assoc : (a b c : ℕ) → max a (max b c) ≡ max (max a b) c
 max-assoc a b c = omega arith

@@ -1,6 +1,6 @@
 //! The sums of a row over a flow's acknowledgements: lost packets, timeouts and acknowledged bytes.
 ghost use Rattle.std.specs.Prelude.{◌≡◌, []};
-ghost use Rattle.campaign_gate.specs.CampaignRow.{sums_of, sums_with, AreRoomy};
+ghost use Rattle.campaign_core.specs.CampaignRow.{sums_of, sums_with, AreRoomy};
 
 use ccp_base::Ack;
 

@@ -1,6 +1,6 @@
 //! What a row needs of a flow's letters beside what later letters depend on.
 ghost use Rattle.std.specs.Prelude.{◌≡◌, max, []};
-ghost use Rattle.campaign_gate.specs.CampaignRow.{sums_of};
+ghost use Rattle.campaign_core.specs.CampaignRow.{sums_of};
 
 use crate::sums::Sums;
 use flow_core::Bare;

@@ -1,6 +1,6 @@
 //! A campaign's row, which sums up a case's flow after its campaign word, and the columns of the table that shows rows.
 ghost use Rattle.std.specs.Prelude.{◌≡◌};
-ghost use Rattle.campaign_gate.specs.CampaignRow.{row_in, columns, heading_of, column_value, is_summed};
+ghost use Rattle.campaign_core.specs.CampaignRow.{row_in, columns, heading_of, column_value, is_summed};
 
 use crate::sums::Sums;
 use ccp_base::Sequence;

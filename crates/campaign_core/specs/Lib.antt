@@ -1,0 +1,4 @@
+-- The definitions of campaign_core, a file each.
+pub mod CampaignWord
+pub mod CampaignRow
+pub mod BareLetters

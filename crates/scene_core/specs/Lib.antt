@@ -1,0 +1,2 @@
+-- The definitions of scene_core.
+pub mod CasePlans
