@@ -11,3 +11,4 @@ pub mod Heard
 pub mod RestLaws
 pub mod Whole
 pub mod Works
+pub mod StepForms

@@ -8,11 +8,14 @@ mod general;
 mod kept;
 mod laws;
 mod machine;
+mod operands;
 mod places;
+mod places_forms;
 mod run;
 mod step;
 mod steps;
 mod store;
+mod value_forms;
 mod work;
 mod working_words;
 
