@@ -1,5 +1,7 @@
 //! A flow before its first letter.
-ghost use Rattle.std.specs.Prelude.{IfOk};
+ghost use Rattle.std.specs.Prelude.{◌≡◌, ◌∷◌, [], IfOk};
+ghost use Rattle.link_model.specs.Standing.{Stands};
+ghost use Rattle.flow_core.specs.RunningEpochs.{line_of};
 ghost use Rattle.flow_core.specs.World.{opening};
 ghost use Rattle.source_flow.specs.SourceStates.{flow_over_sources, AreMatched, IsAt, IsSourceSound};
 ghost use Rattle.source_flow.specs.SourceWalks.{OpensWith};
@@ -8,7 +10,7 @@ use crate::settling::start_env;
 use crate::source_case::SourceCase;
 use crate::state::{Present, State};
 use ccp_base::{NoMemory, Sequence};
-use flow_core::RunningEpoch;
+use flow_core::{EpochLine, RunningEpoch};
 use link_model::Link;
 use std::alloc::Global;
 use std::collections::VecDeque;
@@ -29,6 +31,24 @@ fn opening_epoch(alloc: Global, source: &SourceCase<'_>) -> Result<Present, NoMe
     })
 }
 
+/// The link of a case before its first window.
+fn opening_link(alloc: Global, source: &SourceCase<'_>) -> Result<Link, NoMemory>
+    ensures case { IfOk result (λ link. link.case ≡ source.now.case.now.link) }
+    ensures stands { IfOk result (λ link. Stands link []) }
+    ensures calls { IfOk result (λ link. link.standing.calls ≡ 0) }
+{
+    Link::new(alloc, source.case.link.copy(alloc)?)
+}
+
+/// The line of the epoch that the agent's opening change starts.
+fn opening_lines(alloc: Global, present: &Present) -> Result<Sequence<EpochLine>, NoMemory>
+    ensures { IfOk result (λ epochs. epochs ≡ line_of present.now.epoch 0 present.now.env.cwnd ∷ []) }
+{
+    let mut epochs = Sequence::new(alloc);
+    epochs.push(present.epoch.line(0, present.env.cwnd))?;
+    Ok(epochs)
+}
+
 impl State {
     /// The state of a flow that has no letter yet.
     pub(crate) fn open(alloc: Global, source: &SourceCase<'_>) -> Result<State, NoMemory>
@@ -38,9 +58,21 @@ impl State {
             IsAt (flow_over_sources source.now) state (opening (flow_over_sources source.now))) }
     {
         let present = opening_epoch(alloc, source)?;
-        let link = Link::new(alloc, source.case.link.copy(alloc)?)?;
-        let mut epochs = Sequence::new(alloc);
-        epochs.push(present.epoch.line(0, present.env.cwnd))?;
+        let link = match opening_link(alloc, source) {
+            Ok(link) => link,
+            Err(error) => {
+                drop(present);
+                return Err(error);
+            }
+        };
+        let epochs = match opening_lines(alloc, &present) {
+            Ok(epochs) => epochs,
+            Err(error) => {
+                drop(present);
+                drop(link);
+                return Err(error);
+            }
+        };
         Ok(State {
             link,
             present,

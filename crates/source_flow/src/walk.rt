@@ -61,6 +61,7 @@ impl State {
     }
 }
 
+// The state is dropped by calls, whose proof is the type's: a drop at each exit is proved anew.
 /// The state after a word; None if and only if some letter isn't legal at its point.
 fn walk(alloc: Global, source: &SourceCase<'_>, word: &[Letter]) -> Result<Option<State>, NoMemory>
     requires { AreMatched source.now }
@@ -69,9 +70,16 @@ fn walk(alloc: Global, source: &SourceCase<'_>, word: &[Letter]) -> Result<Optio
     let mut state = State::open(alloc, source)?;
     for letter in word {
         if !state.may_make(source, *letter) {
+            drop(state);
             return Ok(None);
         }
-        state.make(alloc, source, *letter)?;
+        match state.make(alloc, source, *letter) {
+            Ok(()) => {}
+            Err(error) => {
+                drop(state);
+                return Err(error);
+            }
+        }
     }
     Ok(Some(state))
 }

@@ -35,6 +35,6 @@ loop-letter-preserved c =
           legal-next flow link word i A c.loop-letter-test.true invariant.legal
           ∙ sym (c.may_make.ensures.legal before invariant.at)
           ∙ c.if-not-may_make.false;
-      sound = c.in_ok-make.ensures.sound;
-      at = subst (λ (w : World Place). IsAt flow c.make.new.self w) (sym (world-next flow link word i A c.loop-letter-test.true)) (c.in_ok-make.ensures.at before invariant.at);
+      sound = c.in-Ok.ensures.sound;
+      at = subst (λ (w : World Place). IsAt flow c.make.new.self w) (sym (world-next flow link word i A c.loop-letter-test.true)) (c.in-Ok.ensures.at before invariant.at);
     }
