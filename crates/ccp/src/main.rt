@@ -2,8 +2,6 @@
 #![tactic(auto)]
 
 mod process;
-#[cfg(test)]
-mod tests;
 mod words;
 
 use ccp_base::{Reader, Writer};

@@ -12,7 +12,7 @@ use crate::frames::{
 };
 use ccp_base::{Bytes, FaultKind, FieldReg, Fields, Notice, Values};
 use ccp_messages::{Message, Reason, Short, Version, decode, encode_into};
-use reg_code::{Code, Event, Implicit, Instr, Op, Reg, Sequence, Start};
+use reg_code::{Code, Sequence};
 use std::alloc::{AllocError, Global};
 use std::test::*;
 
@@ -234,74 +234,5 @@ fn is_read(alloc: Global, frame: &[u8], wanted: Version) -> bool {
 fn frames_are_read(rt: HostRuntime) {
     for (frame, version) in &SAID {
         assert!(rt; is_read(rt.alloc(), frame, *version), "{frame:?}");
-    }
-}
-
-/// What `INSTALL` says.
-fn is_the_code(code: &Code) -> bool {
-    let field = Start {
-        volatile: false,
-        value: 7,
-    };
-    let event = Event {
-        condition: 1,
-        body: 1,
-    };
-    let is_declared = code.reports.as_slice() == [field].as_slice() && code.controls.is_empty();
-    let [first, second] = code.instrs.as_slice() else {
-        return false;
-    };
-    let is_made = first.instr() == binds(Implicit::Flag) && second.instr() == binds(Implicit::Send);
-    is_declared && code.events.as_slice() == [event].as_slice() && is_made
-}
-
-fn is_the_install(alloc: Global, bytes: &[u8]) -> bool {
-    let Ok((message, version, used)) = decode(alloc, bytes) else {
-        return false;
-    };
-    match &message {
-        Message::Install {
-            flow,
-            program,
-            code,
-        } => {
-            let is_placed = *flow == 0 && *program == 0 && is_the_code(code);
-            is_placed && version == Version::One && used == 89
-        }
-        _ => false,
-    }
-}
-
-/// A code is read whole, from the first of two frames.
-#[test]
-fn a_code_is_read(rt: HostRuntime) -> Result<(), Fail> {
-    let mut twice = Bytes::new(rt.alloc());
-    twice.extend(INSTALL)?;
-    twice.extend(INSTALL)?;
-    assert!(rt; is_the_install(rt.alloc(), twice.as_slice()));
-    Ok(())
-}
-
-/// The head of the longest frame, an Install with as many registers, events and instructions as there may be.
-const LARGEST: &[u8] = b"\x03\x02\x40\x40\x40\x00\x00\x01\x00\x00\x00\x00\x94\x21\x00\x00";
-
-/// The longest frame, each byte after its head 0.
-#[test]
-fn the_largest_code_is_read(rt: HostRuntime) -> Result<(), Fail> {
-    let mut frame = Bytes::new(rt.alloc());
-    frame.extend(LARGEST)?;
-    frame.extend(&vec![in rt.alloc(); 0u8; 8580]?)?;
-    let mut out = vec![in rt.alloc(); 7u8; 8596]?;
-    assert!(rt; back_in(rt.alloc(), frame.as_slice(), &mut out) == Some(8596));
-    Ok(())
-}
-
-/// An implicit register becomes 1.
-fn binds(which: Implicit) -> Instr {
-    Instr {
-        op: Op::Bind,
-        to: Reg::Implicit(which),
-        left: Reg::Imm(1),
-        right: Reg::Imm(0),
     }
 }

@@ -103,51 +103,6 @@ fn refuses_too_many(rt: HostRuntime) -> Result<(), Fail> {
     Ok(())
 }
 
-/// Events over two instructions, and their refusals.
-const EVENTS: [(&[Event], Refusal); 5] = [
-    (
-        &[
-            BARE,
-            Event {
-                condition: 0,
-                body: 1,
-            },
-        ],
-        Some((Rule::Events, 1)),
-    ),
-    (
-        &[
-            BARE,
-            Event {
-                condition: 1,
-                body: 1,
-            },
-        ],
-        Some((Rule::Events, 1)),
-    ),
-    (
-        &[
-            Event {
-                condition: 3,
-                body: 0,
-            },
-            BARE,
-        ],
-        Some((Rule::Events, 0)),
-    ),
-    (&[BARE], Some((Rule::Events, 1))),
-    (&[BARE, BARE], None),
-];
-
-#[test]
-fn refuses_events_that_dont_fit(rt: HostRuntime) -> Result<(), Fail> {
-    for (events, wanted) in &EVENTS {
-        let code = code(rt.alloc(), 0, 0, events, &[HOLDS, HOLDS])?;
-        assert!(rt; refusal(code) == *wanted, "{events:?}");
-    }
-    Ok(())
-}
-
 /// An operation, the register that it writes and those that it reads.
 type Line = (Op, Reg, Reg, Reg);
 
@@ -249,29 +204,6 @@ fn refuses_the_first_rule_that_a_condition_fails(rt: HostRuntime) -> Result<(), 
         let refusal = refusal_of_event(rt.alloc(), row.0, row.1, body)?;
         assert!(rt; refusal == row.2, "at {place}");
     }
-    Ok(())
-}
-
-#[test]
-fn refuses_a_temporary_that_was_not_written(rt: HostRuntime) -> Result<(), Fail> {
-    let event = Event {
-        condition: 1,
-        body: 1,
-    };
-    let lines = [
-        instr((Op::Bind, FLAG, TEMP, ZERO)),
-        instr((Op::Bind, CWND, ONE, ZERO)),
-    ];
-    let refusal = refusal(code(rt.alloc(), 0, 0, &[event], &lines)?);
-    assert!(rt; refusal == Some((Rule::Temporary, 0)));
-    Ok(())
-}
-
-#[test]
-fn hands_a_code_on(rt: HostRuntime) -> Result<(), Fail> {
-    let alloc = rt.alloc();
-    let checked = verify(code(alloc, 0, 2, &[], &[])?).ok().ok_or("refused")?;
-    assert!(rt; checked.copy(alloc)?.code().controls.len() == 2);
     Ok(())
 }
 

@@ -1,10 +1,7 @@
-//! Streams in memory and those of the process.
-use ccp_base::{
-    Bytes, Failed, MemSink, MemSource, Numbers, ReadFault, Reader, Sink, Source, Writer, read_all,
-    write_all,
-};
+//! Streams in memory: pieces, limits, and calls that fail.
+use ccp_base::{Failed, MemSink, MemSource, ReadFault, Sink, Source, read_all, write_all};
 use std::alloc::Global;
-use std::test::Fail;
+use std::test::*;
 
 /// What is read of a text and written of it.
 const TEXT: &[u8] = b"seven77";
@@ -86,32 +83,4 @@ fn what_is_written(rt: HostRuntime) {
     for (place, row) in WRITINGS.iter().enumerate() {
         assert!(rt; is_written(rt.alloc(), row), "at {place}");
     }
-}
-
-// an empty piece, so that the test doesn't wait for input
-#[test]
-fn real_streams(rt: HostRuntime) {
-    let read = Reader::new(rt.stdin()).read(&mut []);
-    assert!(rt; read == Ok(0));
-    let mut output = Writer::new(rt.stdout());
-    assert!(rt; write_all(&mut output, b"to the standard output\n").is_ok());
-    let mut errors = Writer::new(rt.stderr());
-    assert!(rt; write_all(&mut errors, b"to the standard error\n").is_ok());
-}
-
-#[test]
-fn bytes_grow(rt: HostRuntime) -> Result<(), Fail> {
-    let mut bytes = Bytes::new(rt.alloc());
-    bytes.extend(b"ab")?;
-    bytes.push(b'c')?;
-    assert!(rt; bytes.as_slice() == b"abc".as_slice());
-    Ok(())
-}
-
-#[test]
-fn numbers_grow(rt: HostRuntime) -> Result<(), Fail> {
-    let mut numbers = Numbers::new(rt.alloc());
-    numbers.push(5)?;
-    assert!(rt; numbers.as_slice() == [5].as_slice());
-    Ok(())
 }
