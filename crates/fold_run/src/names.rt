@@ -88,7 +88,7 @@ fn searched_item(text: &[u8]) -> Option<Item<'_>>
 macro_rules! after_name_of {
     ($text:ident, $number:ident, $($known:literal)*) => {
         match $number {
-            $($known => after_equals($text, PRIMITIVE_NAMES.get($known)?.1),)*
+            $($known => after_known($text, $known),)*
             _ => None,
         }
     };
@@ -102,6 +102,16 @@ fn after_name(text: &[u8], number: usize) -> Option<&[u8]>
     ensures below { IfSome result (λ _. number < primitive_count) }
 {
     after_name_of!(text, number, 0 1 2 3 4 5 6 7 8 9 10 11 12 13 14 15 16 17 18 19 20 21 22 23)
+}
+
+// A function of its own: its clauses are those of an arm above, and each arm calls it with a number that is known.
+/// What follows the name of a primitive and an equals sign, if a text begins with them.
+#[inline(always)]
+fn after_known(text: &[u8], number: usize) -> Option<&[u8]>
+    ensures after { IfSome result (λ rest. text.now ≡ primitive_word number ++ 61 ∷ rest.now) }
+    ensures below { IfSome result (λ _. number < primitive_count) }
+{
+    after_equals(text, PRIMITIVE_NAMES.get(number)?.1)
 }
 
 /// What follows a name and an equals sign, if a text begins with them.
