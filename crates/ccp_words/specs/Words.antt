@@ -43,6 +43,13 @@ number_option name least most = record (new_rule name) {
 abbrev pub wire_flag : Rule
 wire_flag = record (new_rule (codes "wire")) { long = Some (codes "wire"); action = Some SetTrue }
 
+-- the command line before its arguments, without flags for help and the version
+abbrev pub bare_command : App
+bare_command = record {
+  top = record (new_shape (codes "ccp")) { disable_help_flag = true; disable_version_flag = true };
+  subs = [];
+}
+
 -- the command line with modes of these names, and without flags for help and the version
 abbrev pub command_line : HeldNames → App
 command_line names = record {

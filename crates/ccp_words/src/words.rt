@@ -1,8 +1,8 @@
 //! How the command line's words are read: the mode, and each option with its range and default.
 ghost use Rattle.std.specs.Prelude.{◌≡◌, ◌≢◌, true, false, Some, IfOk, OnOk, IfErr, IfSome, option_map, map, string_bytes};
-ghost use Rattle.clap.specs.Words.{rule_of, found_of, one_text};
+ghost use Rattle.clap.specs.Words.{app_of, rule_of, found_of, one_text};
 ghost use Rattle.ccp_words.specs.Matches.{HasOptions, ReadsNumber, SaysMode, is_flag_text};
-ghost use Rattle.ccp_words.specs.Words.{HasWorkers, IsCommandLine, are_accepted, asked_in, mode_argument, number_option};
+ghost use Rattle.ccp_words.specs.Words.{HasWorkers, IsCommandLine, are_accepted, asked_in, bare_command, mode_argument, number_option, wire_flag};
 
 use crate::mode::{ToolMode, names};
 use clap::builder::ValueParser;
@@ -101,23 +101,27 @@ fn read_flag(matches: &ArgMatches, name: &str) -> bool
     matches.get_one::<bool>(name).unwrap_or(false)
 }
 
+// Each argument is made where it is added: one that is made before would be dropped at each exit between.
 /// The command line: the mode, and the options of all modes.
 fn command<'a>(alloc: Global) -> Result<Command<'a>, AllocError>
     ensures { IfOk result IsCommandLine }
 {
-    let mode = mode_argument(alloc, names());
-    let wire = Arg::new(alloc, "wire")
-        .long("wire")
-        .action(ArgAction::SetTrue);
-    Command::new(alloc, "ccp")
-        .disable_help_flag(true)
-        .disable_version_flag(true)
-        .arg(mode)?
+    bare_command(alloc)
+        .arg(mode_argument(alloc, names()))?
         .arg(number_option(alloc, "datapaths", 1, WORKERS))?
         .arg(number_option(alloc, "agents", 1, WORKERS))?
         .arg(number_option(alloc, "workers", 1, WORKERS))?
         .arg(number_option(alloc, "number", 0, 4_294_967_295))?
-        .arg(wire)
+        .arg(wire_flag(alloc))
+}
+
+/// The command line before its arguments, without flags for help and the version.
+fn bare_command<'a>(alloc: Global) -> Command<'a>
+    ensures { app_of result ≡ bare_command }
+{
+    Command::new(alloc, "ccp")
+        .disable_help_flag(true)
+        .disable_version_flag(true)
 }
 
 /// The positional argument, which is needed and is one of these names.
@@ -141,4 +145,14 @@ fn number_option<'a>(alloc: Global, name: &'a str, least: u64, most: u64) -> Arg
         .action(ArgAction::Set)
         .value_parser(ValueParser::unsigned(least, most))
         .default_value("1")
+}
+
+/// The flag that shows the programs' Install frames.
+fn wire_flag<'a>(alloc: Global) -> Arg<'a>
+    ensures rule { rule_of result ≡ wire_flag }
+    ensures own { result.global ≡ false }
+{
+    Arg::new(alloc, "wire")
+        .long("wire")
+        .action(ArgAction::SetTrue)
 }
