@@ -98,7 +98,9 @@ def milliseconds(least_us, most_us):
         if value is None:
             raise argparse.ArgumentTypeError("%s isn't a number of milliseconds with at most three decimals" % text)
         if not least_us <= value <= most_us:
-            raise argparse.ArgumentTypeError("%s ms is out of the range %g to %g" % (text, least_us / 1000, most_us / 1000))
+            raise argparse.ArgumentTypeError(
+                "%s ms is out of the range %g to %g" % (text, least_us / 1000, most_us / 1000)
+            )
         return value
 
     return read
@@ -131,7 +133,9 @@ def name_and(text, what):
     """NAME=VALUE, both as texts."""
     name, is_there, value = text.partition("=")
     if not is_there or not value or not ccp.NAME.match(name):
-        raise argparse.ArgumentTypeError("%s isn't %s with a name of at most 32 letters, digits, _, - and ." % (text, what))
+        raise argparse.ArgumentTypeError(
+            "%s isn't %s with a name of at most 32 letters, digits, _, - and ." % (text, what)
+        )
     return name, value
 
 
@@ -152,13 +156,19 @@ class Sender:
     def __init__(self, text):
         label, is_labelled, rest = text.rpartition("=")
         if is_labelled and not ccp.NAME.match(label):
-            raise argparse.ArgumentTypeError("%s: the label %s isn't at most 32 letters, digits, _, - and ." % (text, label))
+            raise argparse.ArgumentTypeError(
+                "%s: the label %s isn't at most 32 letters, digits, _, - and ." % (text, label)
+            )
         self.agent, *programs = rest.split(":")
         if self.agent not in ccp.AGENTS or len(programs) > 2 or programs and not programs[-1]:
-            raise argparse.ArgumentTypeError("%s is none of %s, KIND:PROGRAM, KIND:PROGRAM:PROGRAM and KIND::PROGRAM" % (text, ", ".join(ccp.AGENTS)))
+            raise argparse.ArgumentTypeError(
+                "%s is none of %s, KIND:PROGRAM, KIND:PROGRAM:PROGRAM and KIND::PROGRAM" % (text, ", ".join(ccp.AGENTS))
+            )
         for name in filter(None, programs):
             if not ccp.NAME.match(name):
-                raise argparse.ArgumentTypeError("%s: the program %s isn't at most 32 letters, digits, _, - and ." % (text, name))
+                raise argparse.ArgumentTypeError(
+                    "%s: the program %s isn't at most 32 letters, digits, _, - and ." % (text, name)
+                )
         self.slow = programs[0] or None if programs else None
         self.avoid = programs[-1] if programs else None
         self.label = label or ".".join(dict.fromkeys(filter(None, (self.agent, self.slow, self.avoid))))
@@ -187,7 +197,11 @@ class Loss:
             return self.numbers
         if (seed, count) not in self.kept:
             draw = random.Random(seed).random
-            self.kept[seed, count] = by_chance(draw, count, *self.chances) if len(self.chances) == 1 else in_bursts(draw, count, *self.chances)
+            self.kept[seed, count] = (
+                by_chance(draw, count, *self.chances)
+                if len(self.chances) == 1
+                else in_bursts(draw, count, *self.chances)
+            )
         return self.kept[seed, count]
 
 
@@ -221,7 +235,9 @@ def losses(text):
     if count and count <= len(parts) <= count + 1:
         chances = [chance(text, part, 0.5 if count == 1 else 1) for part in parts[:count]]
         if count == 2 and chances[0] > chances[1] or not chances[-1]:
-            raise argparse.ArgumentTypeError("%s: the chances are above 0, and at most half of the packets are lost" % text)
+            raise argparse.ArgumentTypeError(
+                "%s: the chances are above 0, and at most half of the packets are lost" % text
+            )
         seed = ccp.whole_from(0, 2**32 - 1)(parts[count]) if len(parts) > count else None
         return Loss(":".join([kind] + parts[:count]), chances=chances, seed=seed)
     if text == "none":
@@ -296,9 +312,21 @@ class Point:
 def points_of(asked, traces):
     """The points of the grid in order."""
     draws = [(at, loss, seed) for at, loss in enumerate(asked.losses) for seed in seeds_of(loss, asked)]
-    grid = itertools.product(traces, asked.steps or asked.agents, asked.queue, asked.delay_ms, draws, asked.mark, asked.cwnd)
+    grid = itertools.product(
+        traces, asked.steps or asked.agents, asked.queue, asked.delay_ms, draws, asked.mark, asked.cwnd
+    )
     for name, sender, queue, delay_us, (at, loss, seed), mark_at, cwnd in grid:
-        yield Point(trace=name, sender=sender, queue=queue, delay_us=delay_us, loss=loss, at=at, seed=seed, mark=mark_at, cwnd=cwnd)
+        yield Point(
+            trace=name,
+            sender=sender,
+            queue=queue,
+            delay_us=delay_us,
+            loss=loss,
+            at=at,
+            seed=seed,
+            mark=mark_at,
+            cwnd=cwnd,
+        )
 
 
 def seeds_of(loss, asked):
@@ -330,14 +358,28 @@ def acks_of(asked, times, name, delay_us):
     count = link.chances(asked.seconds - delay_us)
     if count > ccp.LIMITS["acks"]:
         most = (link.chance_us(ccp.LIMITS["acks"] - 1) + delay_us) // 1000
-        raise ccp.CcpError("%g s of the trace %s are %d acknowledgements, and a case has at most %d: --seconds %d.%03d" % (asked.seconds / 1e6, name, count, ccp.LIMITS["acks"], *divmod(most, 1000)))
+        raise ccp.CcpError(
+            "%g s of the trace %s are %d acknowledgements, and a case has at most %d: --seconds %d.%03d"
+            % (asked.seconds / 1e6, name, count, ccp.LIMITS["acks"], *divmod(most, 1000))
+        )
     if not count:
-        raise ccp.CcpError("the trace %s has no chance in %g s less the delay of %s ms" % (name, asked.seconds / 1e6, milliseconds_text(delay_us)))
+        raise ccp.CcpError(
+            "the trace %s has no chance in %g s less the delay of %s ms"
+            % (name, asked.seconds / 1e6, milliseconds_text(delay_us))
+        )
     return count
 
 
 def case_of(asked, point, name, acks):
-    made = {"name": name, "trace": point.trace, "mss": asked.mss, "queue": point.queue, "delay_us": point.delay_us, "timeout_us": asked.timeout_ms, "acks": acks}
+    made = {
+        "name": name,
+        "trace": point.trace,
+        "mss": asked.mss,
+        "queue": point.queue,
+        "delay_us": point.delay_us,
+        "timeout_us": asked.timeout_ms,
+        "acks": acks,
+    }
     if ccp.MODES[asked.mode].reads == "rollout":
         made.update(cwnd=point.cwnd, steps=point.sender.steps)
     else:
@@ -346,7 +388,13 @@ def case_of(asked, point, name, acks):
     lost = point.loss.drawn(point.seed, 2 * acks)
     if lost:
         made["losses"] = lost
-    beside = {"mark": point.mark, "sender": point.sender.label, "loss": point.loss.label, "rate": point.loss.rate, "seed": point.seed}
+    beside = {
+        "mark": point.mark,
+        "sender": point.sender.label,
+        "loss": point.loss.label,
+        "rate": point.loss.rate,
+        "seed": point.seed,
+    }
     made.update({key: value for key, value in beside.items() if value is not None})
     return made
 
@@ -375,7 +423,11 @@ def shared_of(text):
     parts = text.split(":")
     if not 3 <= len(parts) <= 4:
         raise argparse.ArgumentTypeError("%s isn't of the form TRACE:QUEUE:QUANTUM-MS[:ROUNDS]" % text)
-    made = {"trace": parts[0], "queue": ccp.whole_from(1, 4096)(parts[1]), "quantum_us": milliseconds(1, 1_000_000)(parts[2])}
+    made = {
+        "trace": parts[0],
+        "queue": ccp.whole_from(1, 4096)(parts[1]),
+        "quantum_us": milliseconds(1, 1_000_000)(parts[2]),
+    }
     if len(parts) == 4:
         made["rounds"] = ccp.whole_from(1, 10_000)(parts[3])
     return made
@@ -385,33 +437,116 @@ def shared_of(text):
 
 
 def grid_words(made):
-    made.add_argument("traces", nargs="+", type=trace, metavar="[NAME=]TRACE-FILE", help="a recording; there is a case or more for each")
+    made.add_argument(
+        "traces",
+        nargs="+",
+        type=trace,
+        metavar="[NAME=]TRACE-FILE",
+        help="a recording; there is a case or more for each",
+    )
     made.add_argument("--agents", type=listed(Sender), metavar="LIST", help="senders (%s)" % ",".join(ccp.AGENTS))
-    made.add_argument("--program", type=program, action="append", default=[], metavar="NAME=FILE", help="your own program, at most 13 of them")
-    made.add_argument("--queue", type=several(ccp.whole_from(1, 4096), ccp.whole_from(1, 4096)), default=[100], metavar="LIST", help="packets that may wait at the bottleneck, 1 to 4096 (100)")
-    made.add_argument("--delay-ms", type=several(milliseconds(0, 10_000_000), milliseconds(1, 10_000_000)), default=[20_000], metavar="LIST", help="from a packet's chance to its acknowledgement, 0 to 10000 ms (20)")
-    made.add_argument("--losses", type=listed(losses), default=[Loss("none")], metavar="LIST", help="none, 17+40+900, rate:P[:SEED] or gilbert:P:R[:SEED] (none)")
+    made.add_argument(
+        "--program",
+        type=program,
+        action="append",
+        default=[],
+        metavar="NAME=FILE",
+        help="your own program, at most 13 of them",
+    )
+    made.add_argument(
+        "--queue",
+        type=several(ccp.whole_from(1, 4096), ccp.whole_from(1, 4096)),
+        default=[100],
+        metavar="LIST",
+        help="packets that may wait at the bottleneck, 1 to 4096 (100)",
+    )
+    made.add_argument(
+        "--delay-ms",
+        type=several(milliseconds(0, 10_000_000), milliseconds(1, 10_000_000)),
+        default=[20_000],
+        metavar="LIST",
+        help="from a packet's chance to its acknowledgement, 0 to 10000 ms (20)",
+    )
+    made.add_argument(
+        "--losses",
+        type=listed(losses),
+        default=[Loss("none")],
+        metavar="LIST",
+        help="none, 17+40+900, rate:P[:SEED] or gilbert:P:R[:SEED] (none)",
+    )
     made.add_argument("--seeds", type=seeds, metavar="LIST", help="seeds of the losses by chance, as 1..20 (1)")
-    made.add_argument("--mark", type=several(mark, ccp.whole_from(1, 4096)), default=[None], metavar="LIST", help="waiting packets from which on a packet is marked, 1 to 4096, or none (none)")
-    made.add_argument("--steps", type=listed(Steps), metavar="LIST", help="of rollout: the programs of a flow in order, as slow+grow; a case for each")
-    made.add_argument("--cwnd", type=several(ccp.whole_from(0, 2**32 - 1), ccp.whole_from(1, 2**32 - 1)), metavar="LIST", help="of rollout: the first window in bytes (10 segments)")
+    made.add_argument(
+        "--mark",
+        type=several(mark, ccp.whole_from(1, 4096)),
+        default=[None],
+        metavar="LIST",
+        help="waiting packets from which on a packet is marked, 1 to 4096, or none (none)",
+    )
+    made.add_argument(
+        "--steps",
+        type=listed(Steps),
+        metavar="LIST",
+        help="of rollout: the programs of a flow in order, as slow+grow; a case for each",
+    )
+    made.add_argument(
+        "--cwnd",
+        type=several(ccp.whole_from(0, 2**32 - 1), ccp.whole_from(1, 2**32 - 1)),
+        metavar="LIST",
+        help="of rollout: the first window in bytes (10 segments)",
+    )
 
 
 def words():
     made = ccp.Words("scenario", __doc__)
     grid_words(made)
-    made.add_argument("--mss", type=ccp.whole_from(1, 65_535), default=1448, metavar="BYTES", help="bytes of a segment (1448)")
+    made.add_argument(
+        "--mss", type=ccp.whole_from(1, 65_535), default=1448, metavar="BYTES", help="bytes of a segment (1448)"
+    )
     length = made.add_mutually_exclusive_group()
-    length.add_argument("--acks", type=ccp.whole_from(0, 65_536), metavar="N", help="acknowledgements of a case, at most 65536 (4096)")
+    length.add_argument(
+        "--acks", type=ccp.whole_from(0, 65_536), metavar="N", help="acknowledgements of a case, at most 65536 (4096)"
+    )
     length.add_argument("--seconds", type=seconds, metavar="S", help="the length in place of acknowledgements")
-    made.add_argument("--timeout-ms", type=milliseconds(1, 60_000_000), default=1_000_000, metavar="MS", help="how long a sender waits if no acknowledgement can arrive, up to 60000 ms (1000)")
+    made.add_argument(
+        "--timeout-ms",
+        type=milliseconds(1, 60_000_000),
+        default=1_000_000,
+        metavar="MS",
+        help="how long a sender waits if no acknowledgement can arrive, up to 60000 ms (1000)",
+    )
     made.add_argument("--slots", type=ccp.whole_from(1, 64), default=4, metavar="N", help="reports that may wait (4)")
-    made.add_argument("--lag", type=ccp.whole_from(0, 1000), default=0, metavar="N", help="acknowledgements that an answer takes in a campaign (0)")
-    made.add_argument("--cut", type=ccp.whole_from(1, ccp.LIMITS["longest_ms"]), metavar="MS", help="only the times of each trace up to this one")
-    made.add_argument("--for", dest="mode", choices=CASES, default="campaign", help="the mode that the limits are checked for (campaign)")
-    made.add_argument("--shared", type=shared_of, metavar="TRACE:QUEUE:QUANTUM-MS[:ROUNDS]", help="the bottleneck of all flows, for the mode shared")
+    made.add_argument(
+        "--lag",
+        type=ccp.whole_from(0, 1000),
+        default=0,
+        metavar="N",
+        help="acknowledgements that an answer takes in a campaign (0)",
+    )
+    made.add_argument(
+        "--cut",
+        type=ccp.whole_from(1, ccp.LIMITS["longest_ms"]),
+        metavar="MS",
+        help="only the times of each trace up to this one",
+    )
+    made.add_argument(
+        "--for",
+        dest="mode",
+        choices=CASES,
+        default="campaign",
+        help="the mode that the limits are checked for (campaign)",
+    )
+    made.add_argument(
+        "--shared",
+        type=shared_of,
+        metavar="TRACE:QUEUE:QUANTUM-MS[:ROUNDS]",
+        help="the bottleneck of all flows, for the mode shared",
+    )
     made.add_argument("--whole", action="store_true", help="no limits of one run: for tools/campaign-over-machines")
-    made.add_argument("--dry-run", action="store_true", help="the numbers of cases, bytes and acknowledgements in place of the scenario")
+    made.add_argument(
+        "--dry-run",
+        action="store_true",
+        help="the numbers of cases, bytes and acknowledgements in place of the scenario",
+    )
     return made
 
 
@@ -470,15 +605,24 @@ def with_length(asked, traces, flows):
     if asked.seconds:
         link.setdefault("rounds", -(-asked.seconds // link["quantum_us"]))
         if link["rounds"] > 10_000:
-            raise ccp.CcpError("%g s are %d rounds, and a run has at most 10000: a longer quantum" % (asked.seconds / 1e6, link["rounds"]))
+            raise ccp.CcpError(
+                "%g s are %d rounds, and a run has at most 10000: a longer quantum"
+                % (asked.seconds / 1e6, link["rounds"])
+            )
         until = link["rounds"] * link["quantum_us"]
-        asked.acks = min(ccp.Trace(traces[link["trace"]]).chances(until), ccp.LIMITS["acks"], TOTAL_ACKS // max(1, flows))
+        asked.acks = min(
+            ccp.Trace(traces[link["trace"]]).chances(until), ccp.LIMITS["acks"], TOTAL_ACKS // max(1, flows)
+        )
     return link
 
 
 def programs_of(asked):
     programs = {name: ccp.read_text(path) for name, path in asked.program}
-    used = [name for steps in asked.steps for name in steps.steps] if asked.steps else [name for sender in asked.agents for name in (sender.slow, sender.avoid) if name]
+    used = (
+        [name for steps in asked.steps for name in steps.steps]
+        if asked.steps
+        else [name for sender in asked.agents for name in (sender.slow, sender.avoid) if name]
+    )
     for name in used:
         if name not in programs:
             raise ccp.CcpError("no --program has the name %s" % name)
@@ -489,7 +633,11 @@ def programs_of(asked):
 
 def scenario(asked):
     traces = traces_of(asked)
-    made = {"version": 1, "programs": programs_of(asked), "traces": {name: ccp.trace_text(times) for name, times in traces.items()}}
+    made = {
+        "version": 1,
+        "programs": programs_of(asked),
+        "traces": {name: ccp.trace_text(times) for name, times in traces.items()},
+    }
     if asked.shared:
         made["shared"] = with_length(asked, traces, sum(1 for _ in points_of(asked, traces)))
     made["cases"] = cases_of(asked, traces)
@@ -500,21 +648,33 @@ def checked(asked, made, size):
     """Refuses what the limits forbid."""
     mode = asked.mode
     cases, acks = len(made["cases"]), sum(case["acks"] for case in made["cases"])
-    out = "; --whole writes it for tools/campaign-over-machines%s, which splits it" % ccp.SPLIT[mode] if mode in ccp.SPLIT else ""
+    out = (
+        "; --whole writes it for tools/campaign-over-machines%s, which splits it" % ccp.SPLIT[mode]
+        if mode in ccp.SPLIT
+        else ""
+    )
     if asked.whole:
         longest(made)
     elif cases > CASES[mode]:
         raise ccp.CcpError("%d cases: one run of `%s` has at most %d%s" % (cases, mode, CASES[mode], out))
     elif ccp.MODES[mode].reads != "campaign" and acks > TOTAL_ACKS:
-        raise ccp.CcpError("%d acknowledgements in all: one run of `%s` has at most %d: fewer by --acks or --seconds%s" % (acks, mode, TOTAL_ACKS, out))
+        raise ccp.CcpError(
+            "%d acknowledgements in all: one run of `%s` has at most %d: fewer by --acks or --seconds%s"
+            % (acks, mode, TOTAL_ACKS, out)
+        )
     elif size > BYTES:
-        raise ccp.CcpError("%d bytes (%d of traces): one run takes at most %d: fewer cases or losses, or traces cut by --cut MS%s" % (size, bytes_of(made, made["traces"]), BYTES, out))
+        raise ccp.CcpError(
+            "%d bytes (%d of traces): one run takes at most %d: fewer cases or losses, or traces cut by --cut MS%s"
+            % (size, bytes_of(made, made["traces"]), BYTES, out)
+        )
 
 
 def bytes_of(made, traces):
     """The bytes of these traces in the scenario's text."""
     bare = dict(made, cases=[])
-    return len(ccp.scenario_text(dict(bare, traces={name: made["traces"][name] for name in traces}))) - len(ccp.scenario_text(dict(bare, traces={})))
+    return len(ccp.scenario_text(dict(bare, traces={name: made["traces"][name] for name in traces}))) - len(
+        ccp.scenario_text(dict(bare, traces={}))
+    )
 
 
 def longest(made):
@@ -524,7 +684,10 @@ def longest(made):
     for case in made["cases"]:
         size = bare + traces[case["trace"]] + len(ccp.scenario_text({"cases": [case]}))
         if size > BYTES:
-            raise ccp.CcpError("the case %s alone has %d bytes (%d of its trace), and one run takes at most %d: cut the trace by --cut MS" % (case["name"], size, traces[case["trace"]], BYTES))
+            raise ccp.CcpError(
+                "the case %s alone has %d bytes (%d of its trace), and one run takes at most %d: cut the trace by --cut MS"
+                % (case["name"], size, traces[case["trace"]], BYTES)
+            )
 
 
 def size_text(asked, made, size):
@@ -536,7 +699,11 @@ def size_text(asked, made, size):
         "bytes=%d of at most %d" % (size, BYTES),
         "acknowledgements=%d%s" % (acks, "" if mode == "campaign" else " of at most %d" % TOTAL_ACKS),
     ]
-    lines += ["trace %s chances=%d seconds=%g bytes=%d" % (name, text.count("\n"), int(text.rsplit("\n", 2)[-2]) / 1e3, bytes_of(made, [name])) for name, text in made["traces"].items()]
+    lines += [
+        "trace %s chances=%d seconds=%g bytes=%d"
+        % (name, text.count("\n"), int(text.rsplit("\n", 2)[-2]) / 1e3, bytes_of(made, [name]))
+        for name, text in made["traces"].items()
+    ]
     return "\n".join(lines) + "\n"
 
 

@@ -94,18 +94,29 @@ def difference(program, data, printed, number):
     wrong = flows.forced(flow, [counts for _, counts in tickets])
     if wrong:
         at = tickets[wrong[0]][0]
-        return said(printed, begin + at, "this ticket can't be taken and answered at its counts: %s" % wrong[1], here[at], None)
+        return said(
+            printed, begin + at, "this ticket can't be taken and answered at its counts: %s" % wrong[1], here[at], None
+        )
     wanted = flow.lines()
     verdict = judged(program, data, printed.data(printed.lines[:begin] + wanted))
     if verdict is not None and verdict <= number:
-        return ["%s: the lines of flow %d begin at line %d; which of them differs isn't known" % (printed.name, number, printed.first + begin)]
+        return [
+            "%s: the lines of flow %d begin at line %d; which of them differs isn't known"
+            % (printed.name, number, printed.first + begin)
+        ]
     return first_difference(printed, begin, here, wanted)
 
 
 def first_difference(printed, begin, here, wanted):
     for at, (line, other) in enumerate(zip(here, wanted)):
         if line != other:
-            return said(printed, begin + at, "this line differs from what the flow's own word gives" + part_of(line, other), line, other)
+            return said(
+                printed,
+                begin + at,
+                "this line differs from what the flow's own word gives" + part_of(line, other),
+                line,
+                other,
+            )
     if len(here) < len(wanted):
         return ["%s: the text ends before this line" % printed.name, "  expected  " + wanted[len(here)]]
     return said(printed, begin + len(wanted), "the flow ends before this line", here[len(wanted)], None)
@@ -125,7 +136,11 @@ def said(printed, at, what, line, wanted):
 
 def main():
     words = ccp.Words("audit", __doc__, usage=argparse.SUPPRESS)
-    words.add_argument("--program", metavar="PATH", help="the program to ask; $CCP_PROGRAM, or the one that is built here, unless it is given")
+    words.add_argument(
+        "--program",
+        metavar="PATH",
+        help="the program to ask; $CCP_PROGRAM, or the one that is built here, unless it is given",
+    )
     words.add_argument("scenario", metavar="SCENARIO")
     words.add_argument("text", metavar="TEXT")
     asked = words.parse_args()

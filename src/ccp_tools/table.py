@@ -65,7 +65,9 @@ def with_fields(columns, rows):
     """A heading and rows for pairs of values by column and fields; a field with a column's name gets one of its own."""
     fields = list(dict.fromkeys(name for _, of in rows for name in of))
     heads = ["field_" + name if name in columns else name for name in fields]
-    return columns + heads, [[values.get(name) for name in columns] + [of.get(name) for name in fields] for values, of in rows]
+    return columns + heads, [
+        [values.get(name) for name in columns] + [of.get(name) for name in fields] for values, of in rows
+    ]
 
 
 def report_values(flow, report):
@@ -83,7 +85,13 @@ def ends(lines):
     for flow in ccp.flows_in(lines):
         end = flow.end
         values = {name: getattr(end, name, None) for name in END}
-        values.update(flow=flow.number, case=flow.case, agent=flow.agent, tail="%d..%d" % (end.first, end.acks), stopped="yes" if end.stopped else "no")
+        values.update(
+            flow=flow.number,
+            case=flow.case,
+            agent=flow.agent,
+            tail="%d..%d" % (end.first, end.acks),
+            stopped="yes" if end.stopped else "no",
+        )
         rows.append((values, end.fields))
     return with_fields(END, rows)
 
@@ -91,7 +99,9 @@ def ends(lines):
 def each(lines, names, of):
     """The heading and the rows of some lines of flows: their flow, their case, and the attributes of these names."""
     found = [(flow, item) for flow in ccp.flows_in(lines) for item in of(flow)]
-    return ["flow", "case"] + names, [[flow.number, flow.case] + [getattr(item, name) for name in names] for flow, item in found]
+    return ["flow", "case"] + names, [
+        [flow.number, flow.case] + [getattr(item, name) for name in names] for flow, item in found
+    ]
 
 
 def faults(lines):
@@ -112,7 +122,11 @@ def steps(lines):
 
 def acks(lines):
     """The rows come one after another, so that a long text doesn't fill the memory."""
-    rows = ([flow.number, flow.case, flow.agent, at] + [ack[name] for name in ccp.PRIMITIVES] for flow in ccp.acks_in(lines) for at, ack in enumerate(flow.acks))
+    rows = (
+        [flow.number, flow.case, flow.agent, at] + [ack[name] for name in ccp.PRIMITIVES]
+        for flow in ccp.acks_in(lines)
+        for at, ack in enumerate(flow.acks)
+    )
     return ["flow", "case", "agent", "ack"] + ccp.PRIMITIVES, rows
 
 
@@ -133,7 +147,10 @@ def made_of(lines, what):
     kind = ccp.kind_of("".join(begin))
     if kind not in MADE:
         first = next((line for line in begin if line.strip()), None)
-        raise ccp.BadText("there is nothing in it" if first is None else "nothing that has a CSV: %s" % first.strip()[:60], None if first is None else begin.index(first) + 1)
+        raise ccp.BadText(
+            "there is nothing in it" if first is None else "nothing that has a CSV: %s" % first.strip()[:60],
+            None if first is None else begin.index(first) + 1,
+        )
     whats = MADE[kind]
     if what and what not in whats:
         raise ccp.BadText("there are no %s in this text, but %s" % (what, ", ".join(whats)))
@@ -143,7 +160,11 @@ def made_of(lines, what):
 def main():
     words = ccp.Words("csv", __doc__)
     words.add_argument("file", nargs="?", default="-", metavar="FILE", help="what ccp printed (standard input)")
-    words.add_argument("--what", choices=sorted({what for whats in MADE.values() for what in whats}), help="the lines to write (the first kind that the text has)")
+    words.add_argument(
+        "--what",
+        choices=sorted({what for whats in MADE.values() for what in whats}),
+        help="the lines to write (the first kind that the text has)",
+    )
     asked = words.parse_args()
     place = "standard input" if asked.file == "-" else asked.file
     try:
