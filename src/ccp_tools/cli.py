@@ -26,7 +26,6 @@ PACKAGES = {
     "matplotlib": "python3-matplotlib",
     "scipy": "python3-scipy",
     "jinja2": "python3-jinja2",
-    "pyarrow": "pyarrow, which Debian has no package of",
 }
 
 
@@ -46,10 +45,7 @@ def main(arguments: Sequence[str]) -> int:
     except KeyboardInterrupt:
         return 130
     except ModuleNotFoundError as error:
-        package = PACKAGES.get((error.name or "").split(".")[0])
-        if not package:
-            raise
-        complain(name, "the Python module %s isn't there: tools/install, or apt-get install %s" % (error.name, package))
+        complain(name, missing_module((error.name or "").split(".")[0]))
         return 1
     except MemoryError:
         complain(name, "out of memory")
@@ -59,6 +55,13 @@ def main(arguments: Sequence[str]) -> int:
             return leave_pipe()
         complain(name, ": ".join(str(part) for part in (error.filename, error.strerror or error) if part))
         return 1
+
+
+def missing_module(name: str) -> str:
+    """What a user can do about a module of Python that isn't there."""
+    package = PACKAGES.get(name)
+    more = ": tools/install, or apt-get install %s" % package if package else ""
+    return "the Python module %s isn't installed%s" % (name, more)
 
 
 def closes_output(error: OSError) -> bool:

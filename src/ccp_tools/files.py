@@ -83,26 +83,33 @@ def read_text(path: PathLike) -> str:
 
 @contextmanager
 def lines_of(path: PathLike) -> Iterator[IO[str]]:
-    """The open text of a file, whose lines come one after another, so that a long one doesn't fill the memory.
-    A byte that isn't UTF-8 is a half surrogate, which the reader of the text refuses with its line."""
+    """The open text of a file, whose lines come one after another, so that a long one doesn't fill the memory. A file
+    that is no text in UTF-8 is a CcpError."""
+    file = open_bytes(path)
     try:
-        file = sys.stdin.buffer if str(path) == "-" else open(path, "rb")
-    except OSError as error:
-        raise CcpError("%s: %s" % (name_of(path), reason_of(error))) from None
-    except ValueError:
-        raise CcpError("%r: no name of a file" % str(path)) from None
-    text = io.TextIOWrapper(file, encoding="utf-8", errors="surrogateescape", newline="\n")
-    try:
-        yield text
-    except OSError as error:
-        if isinstance(error, BrokenPipeError):
-            raise
-        raise CcpError("%s: %s" % (name_of(path), reason_of(error))) from None
-    finally:
-        if str(path) == "-":
+        kind = what_is(file.peek(16))
+        if kind:
+            raise CcpError("%s: it is %s, and a text in UTF-8 is expected" % (name_of(path), kind))
+        text = io.TextIOWrapper(file, encoding="utf-8", newline="\n")
+        try:
+            yield text
+        finally:
             text.detach()
-        else:
-            text.close()
+    except UnicodeDecodeError:
+        raise CcpError("%s: it isn't UTF-8" % name_of(path)) from None
+    finally:
+        if str(path) != "-":
+            file.close()
+
+
+def open_bytes(path: PathLike) -> io.BufferedReader:
+    """An open file; one that can't be opened is a CcpError."""
+    try:
+        return sys.stdin.buffer if str(path) == "-" else open(path, "rb")  # type: ignore[return-value]
+    except OSError as error:
+        raise CcpError("%s: %s" % (name_of(path), reason_of(error))) from None
+    except ValueError:  # a path with a byte 0
+        raise CcpError("%r: no name of a file" % str(path)) from None
 
 
 def write_text(path: PathLike, text: str) -> None:
