@@ -23,17 +23,16 @@ is_current() {
     local state=${2:-$1} newer
     [ -x "$1" ] || return 1
     if [ -e "$state.newer" ] && read -r newer < "$state.newer" && [ "$newer" -nt "$1" ]; then return 1; fi
-    if [ "$state.sources" -nt "$1" ] && [ -z "$(changed_since "$state.sources")" ]; then return 0; fi
+    if [ "$state.sources" -nt "$1" ]; then
+        # what changed after the list was made, or can't be looked at
+        # shellcheck disable=SC2185
+        newer=$(cd "$here/crates" && exec find -files0-from "$state.sources" -maxdepth 0 -newer "$state.sources" -print -quit 2>&1)
+        if [ -z "$newer" ]; then return 0; fi
+    fi
     newer=$(newer_source "$1")
     if [ -z "$newer" ]; then keep_sources "$state"; fi
     if [ -n "$newer" ] && [ -w "${state%/*}" ]; then printf '%s\n' "$newer" > "$state.newer"; fi
     [ -z "$newer" ]
-}
-
-# What of the folders and files in the list $1 changed after the list was made, or can't be looked at.
-changed_since() {
-    # shellcheck disable=SC2185
-    find -files0-from "$1" -maxdepth 0 -newer "$1" -print -quit 2>&1
 }
 
 # A source that is newer than the program $1. Of the folders named `out` only a crate's own is left out: the proofs of a
@@ -48,8 +47,9 @@ keep_sources() {
     if [ ! -w "${1%/*}" ]; then return; fi
     rm -f "$1.newer"
     : > "$1.begun"
-    find "$here/crates.txt" "$here/crates" "$here"/crates/*/* -path "$here/crates/*/out" ! -path "$here/crates/*/*/out" -prune -o \
-        \( -type d -o -name '*.rt' -o -name '*.antt' -o -name crates.txt \) -print0 > "$1.new" \
+    # paths from the folder of the crates, which are looked at faster
+    (cd "$here/crates" && find ../crates.txt . -path './*/out' ! -path './*/*/out' -prune -o \
+        \( -type d -o -name '*.rt' -o -name '*.antt' -o -name crates.txt \) -print0) > "$1.new" \
         && touch -r "$1.begun" "$1.new" && mv "$1.new" "$1.sources"
     rm -f "$1.begun"
 }

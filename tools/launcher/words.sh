@@ -99,14 +99,14 @@ meant() {
     local one best='' least=3 distance
     if [ ${#1} -gt 20 ]; then return; fi
     for one in "${@:2}"; do
-        distance=$(distance_of "$1" "$one")
+        measure_distance "$1" "$one"
         if [ "$distance" -lt "$least" ] && [ $((2 * distance)) -lt ${#one} ]; then best=$one least=$distance; fi
     done
     if [ -n "$best" ]; then printf ' (did you mean %s?)' "$best"; fi
 }
 
-# How many letters have to be changed, put in or left out to make $2 of $1.
-distance_of() {
+# Sets `distance` to how many letters have to be changed, put in or left out to make $2 of $1.
+measure_distance() {
     local i j above corner cost row=()
     for ((j = 0; j <= ${#2}; j++)); do row[j]=$j; done
     for ((i = 1; i <= ${#1}; i++)); do
@@ -121,7 +121,7 @@ distance_of() {
             corner=$above
         done
     done
-    echo "${row[${#2}]}"
+    distance=${row[${#2}]}
 }
 
 # Reads the words: sets `mode`, `options` and `files`, or `wrong`.
@@ -166,7 +166,7 @@ read_page() {
         before=$word
     done
     if [ "$page" = help ] && [ -n "$named" ]; then
-        if is_one_of "$named" "${modes[@]}"; then page=mode; else page=command; fi
+        if is_one_of "$named" "${modes[@]}"; then page=mode; else page="command"; fi
     fi
     [ -z "$wrong" ]
 }
