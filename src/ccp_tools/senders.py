@@ -14,7 +14,7 @@ import argparse
 from dataclasses import dataclass
 from typing import Dict, List, Mapping, Sequence, Tuple
 
-from .arguments import add_portus, is_name, list_of, shown
+from .arguments import Parse, add_portus, is_name, list_of, shown
 from .errors import CcpError, UsageError
 from .files import read_text
 from .tables import AGENTS, LIMITS
@@ -68,6 +68,22 @@ def base_name(program: str) -> str:
     base = program.rpartition("/")[2]
     base = base[: -len(".portus")] if base.endswith(".portus") else base
     return "".join(letter if is_name(letter) else "-" for letter in base) or "program"
+
+
+def senders(most: int | None = None) -> Parse[List[Sender]]:
+    """A parser of a list of at most `most` senders with different labels, for commands in which a label stands for one
+    sender. Flows over one bottleneck may have the same sender, so `add_senders` has no such rule."""
+    listed = list_of(sender, most)
+
+    def parse(text: str) -> List[Sender]:
+        found = listed(text)
+        try:
+            check_labels(found)
+        except UsageError as error:
+            raise argparse.ArgumentTypeError(str(error)) from None
+        return found
+
+    return parse
 
 
 def check_labels(found: Sequence[Sender]) -> None:
