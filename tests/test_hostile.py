@@ -10,6 +10,7 @@ from typing import List
 import pytest
 from support import EXAMPLES, REPOSITORY, command
 
+from ccp_tools.cli import main
 from ccp_tools.tables import COMMANDS
 
 # the arguments of a command that reads FILE; OUT is a folder that may be written
@@ -46,33 +47,43 @@ def words_of(words: List[str], path: Path, folder: Path) -> List[str]:
     return [word.replace("FILE", str(path)).replace("OUT", str(folder)) for word in words]
 
 
-def check(name: str, words: List[str]) -> None:
-    """Runs a command: it ends by itself, without a traceback, and a refusal is one line that names the command."""
-    ran = command(name, *words, timeout=120)
-    assert "Traceback" not in ran.errors, ran.errors
-    assert 0 <= ran.status < 128, "%d: %s" % (ran.status, ran.errors)
-    if ran.status and ran.errors and not ran.output:
-        lines = [line for line in ran.errors.splitlines() if not line.startswith("ccp: warning: ")]
-        assert lines[-1].startswith("ccp %s: " % name), ran.errors
+def check(name: str, words: List[str], capsys: pytest.CaptureFixture[str]) -> None:
+    """Runs a command in this process: no exception leaves it, and a refusal is one line that names the command."""
+    status = main([name, *words])
+    shown = capsys.readouterr()
+    check_end(name, status, shown.out, shown.err)
+
+
+def check_end(name: str, status: int, output: str, errors: str) -> None:
+    assert "Traceback" not in errors, errors
+    assert 0 <= status < 128, "%d: %s" % (status, errors)
+    if status and errors and not output:
+        lines = [line for line in errors.splitlines() if not line.startswith("ccp: warning: ")]
+        assert lines[-1].startswith("ccp %s: " % name), errors
 
 
 @pytest.mark.parametrize("content", CONTENTS)
 @pytest.mark.parametrize("name, words", CASES)
-def test_a_file_of_anything(program: Path, tmp_path: Path, name: str, words: List[str], content: str) -> None:
+def test_a_file_of_anything(
+    program: Path, tmp_path: Path, capsys: pytest.CaptureFixture[str], name: str, words: List[str], content: str
+) -> None:
     path = tmp_path / "given"
     path.write_bytes(CONTENTS[content])
-    check(name, words_of(words, path, tmp_path))
+    check(name, words_of(words, path, tmp_path), capsys)
 
 
 @pytest.mark.parametrize("name, words", CASES)
-def test_a_folder_and_no_file(program: Path, tmp_path: Path, name: str, words: List[str]) -> None:
+def test_a_folder_and_no_file(
+    program: Path, tmp_path: Path, capsys: pytest.CaptureFixture[str], name: str, words: List[str]
+) -> None:
     for path in (tmp_path, tmp_path / "none", Path("/dev/null"), tmp_path / ("x" * 300)):
-        check(name, words_of(words, path, tmp_path))
+        check(name, words_of(words, path, tmp_path), capsys)
 
 
 @pytest.mark.parametrize("name, words", CASES)
 def test_no_input(program: Path, tmp_path: Path, name: str, words: List[str]) -> None:
-    check(name, words_of(words, Path("-"), tmp_path))
+    ran = command(name, *words_of(words, Path("-"), tmp_path), timeout=120)
+    check_end(name, ran.status, ran.output, ran.errors)
 
 
 @pytest.mark.parametrize("name", COMMANDS)
