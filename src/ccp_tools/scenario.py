@@ -1,0 +1,545 @@
+"""Makes a scenario from trace files and a grid of senders, queues, delays, losses, seeds and marks.
+
+    ccp scenario [OPTION].. [NAME=]TRACE-FILE.. > scenario.json
+
+    ccp scenario --senders reno,cubic --queue 20,200 --delay-ms 10,40 examples/traces/*.trace > scenario.json
+    ccp campaign scenario.json
+
+Traces. A trace file is one as Mahimahi records them: a time in whole milliseconds a line, not falling; at each such
+time the link can send one packet, and after the last time the trace begins anew. `-` is standard input. A trace is
+named by its file without the ending .trace or .txt, so Mahimahi's X.down and X.up stay apart; NAME=FILE gives it
+another name. A trace is shortened only where --cut MS asks for it.
+
+The grid. There is a case for each trace, sender, queue, delay, loss, seed and mark, in this order; the last one varies
+fastest. A list has commas between its values; among numbers, 10..100:10 is 10, 20 and on to 100, and 1..20 is each of
+them.
+
+Senders. --senders takes an agent, as `reno`, or one with your own programs: LABEL=PROGRAM runs a program in slow start
+and in congestion avoidance with Reno as the agent, `cubic:PROGRAM` has another agent, `reno:SLOW:AVOID` runs SLOW in
+slow start and AVOID in avoidance, and `reno::AVOID` runs the built-in one in slow start. LABEL= before any of these
+names the sender. A program is a file, or a name that --portus NAME=FILE gives.
+
+Losses. --losses takes `none`, numbers of packets as 17+40+900, or losses by chance: `rate:P` loses each packet with the
+chance P, and `gilbert:P:R` loses bursts: after a packet that came through the next one begins a burst with the chance
+P, and after a lost one the burst ends with the chance R, so that bursts have 1/R packets on average and P/(P+R) of all
+packets are lost. --seeds 1..20 repeats each loss by chance with each seed; `rate:P:SEED` and `gilbert:P:R:SEED` have a
+seed of their own. Equal seeds lose the same packets in every case, whatever the trace, the sender and the queue. Losses
+are drawn for the first 2*acks packets of a flow; packets after these are lost by the queue alone.
+
+Length. A case ends after --acks acknowledgements. --seconds S computes them for each trace and delay: as many as the
+link has chances in the first S seconds less the delay. So a sender that keeps the link busy ends at about S seconds,
+and a slower one later. With --shared, S is the length of the run.
+
+Limits. A scenario that one run doesn't accept (too many cases, bytes or acknowledgements for the mode of --for) is
+refused with its size. --whole writes it all the same, for `ccp over`, which splits it. --dry-run prints the size in
+place of the scenario.
+
+Beside what `ccp` reads, each case has the members `sender`, `loss`, and where they mean something `rate` (the share of
+packets lost by chance) and `seed`. `ccp` ignores them; `ccp metrics` shows them as columns.
+
+Exit status: 0; 1 where a file is refused or a limit is passed; 2 where an argument is wrong."""
+from __future__ import annotations
+
+import argparse
+import itertools
+import re
+import sys
+from dataclasses import dataclass, field
+from pathlib import Path
+from typing import Any, Dict, Iterator, List, Mapping, Sequence, Tuple
+
+from .arguments import Parse, Parser, deprecated, is_name, list_of, named_file, ranges, shown, whole
+from .errors import CcpError, UsageError
+from .losses import Loss, loss
+from .scenario_files import Scenario, read_scenario, scenario_of, scenario_text, write_scenario
+from .senders import Sender, add_senders, resolved, sender
+from .tables import AGENTS, LIMITS, MODES
+from .traces import Trace, read_trace, trace_text
+
+__all__ = ["Grid", "make", "read_scenario", "scenario_of", "scenario_text", "write_scenario"]
+
+# the most cases of a mode's scenario; `audit` reads one of `live`
+CASES: Dict[str, int] = {**{mode.name: mode.cases for mode in MODES.values() if mode.cases}, "audit": LIMITS["flows"]}
+# the modes that `ccp over` runs in parts, with its option for each
+SPLIT = {"campaign": "", "timeline": " --timeline", "acks": " --acks"}
+LONGEST_NAME = LIMITS["scene_name_bytes"]
+MIDDLE = ".."
+
+
+# ---- parsers of values
+
+
+def thousandths(text: str) -> int | None:
+    """The thousandths of a number with at most three decimals, or None."""
+    found = re.fullmatch(r"([0-9]{1,12})(?:\.([0-9]{1,3}))?", text)
+    return 1000 * int(found.group(1)) + int((found.group(2) or "0").ljust(3, "0")) if found else None
+
+
+def milliseconds(least_us: int, most_us: int) -> Parse[int]:
+    """A parser of milliseconds, which may have a fraction, as microseconds."""
+
+    def parse(text: str) -> int:
+        value = thousandths(text)
+        if value is None:
+            raise argparse.ArgumentTypeError("%s isn't a number of ms with at most three decimals" % shown(text))
+        if not least_us <= value <= most_us:
+            raise argparse.ArgumentTypeError("%s ms isn't from %g to %g ms" % (text, least_us / 1000, most_us / 1000))
+        return value
+
+    return parse
+
+
+def seconds(text: str) -> int:
+    """A parser of seconds, as microseconds."""
+    value = thousandths(text)
+    if not value:
+        raise argparse.ArgumentTypeError(
+            "%s isn't a number of seconds above 0 with at most three decimals" % shown(text)
+        )
+    return 1000 * value
+
+
+def mark(text: str) -> int | None:
+    """A parser of a number of waiting packets, or none."""
+    return None if text == "none" else whole(1, LIMITS["mark"])(text)
+
+
+def trace(text: str) -> Tuple[str | None, str]:
+    """The name of a trace, or None, and its file. A file whose name has a = is taken as it stands."""
+    if "=" not in text or Path(text).exists():
+        return None, text
+    return named_file(text)
+
+
+@dataclass(frozen=True)
+class Steps:
+    """The programs of a rollout's flow, in order. As a sender of the grid its label is their names."""
+
+    steps: Tuple[str, ...]
+
+    @property
+    def label(self) -> str:
+        return ".".join(self.steps)
+
+
+def steps(text: str) -> Steps:
+    """A parser of the steps of a flow: names of programs with + between."""
+    names = text.split("+")
+    if not all(map(is_name, names)) or len(names) > LIMITS["steps"]:
+        raise argparse.ArgumentTypeError(
+            "%s isn't 1 to %d names of programs with + between" % (shown(text), LIMITS["steps"])
+        )
+    return Steps(tuple(names))
+
+
+def shared(text: str) -> Dict[str, Any]:
+    """A parser of the member `shared`: TRACE:QUEUE:QUANTUM-MS[:ROUNDS]."""
+    parts = text.split(":")
+    if not 3 <= len(parts) <= 4:
+        raise argparse.ArgumentTypeError("%s isn't of the form TRACE:QUEUE:QUANTUM-MS[:ROUNDS]" % shown(text))
+    made: Dict[str, Any] = {"trace": parts[0], "queue": whole(1, LIMITS["queue"])(parts[1])}
+    made["quantum_us"] = milliseconds(1, LIMITS["quantum_us"])(parts[2])
+    if len(parts) == 4:
+        made["rounds"] = whole(1, LIMITS["rounds"])(parts[3])
+    return made
+
+
+# ---- names
+
+
+def shortened(text: str, room: int) -> str:
+    """A text of at most `room` bytes, with its beginning and its end: a trace's direction is at its end."""
+    if len(text) <= room:
+        return text
+    end = min(room - len(MIDDLE) - 1, max(5, (room - len(MIDDLE)) // 2))
+    return text[: room - len(MIDDLE) - end] + MIDDLE + text[-end:]
+
+
+def apart(text: str, room: int, taken: Sequence[str] | Dict[str, Any]) -> str:
+    """A text of at most `room` bytes that isn't in `taken`: if need be it ends with a number."""
+    name, number = shortened(text, room), 2
+    while name in taken:
+        ending = "-%d" % number
+        name, number = shortened(text, room - len(ending)) + ending, number + 1
+    return name
+
+
+def trace_name(path: str, taken: Dict[str, Any]) -> str:
+    """The name of a trace whose user gave it none, by its file."""
+    base = "trace" if path == "-" else Path(path).name
+    for ending in (".gz", ".xz", ".trace", ".txt"):
+        base = base.removesuffix(ending) or base
+    return apart(re.sub(r"[^A-Za-z0-9_.-]", "-", base) or "trace", LONGEST_NAME, taken)
+
+
+def milliseconds_text(us: int) -> str:
+    """Microseconds as milliseconds, without zeros at the end."""
+    return ("%d.%03d" % divmod(us, 1000)).rstrip("0").rstrip(".")
+
+
+def short_names(traces: Sequence[str], room: int) -> Dict[str, str]:
+    """A name for each trace of at most `room` bytes, or its own if shorter names would be equal."""
+    short: Dict[str, str] = {}
+    for name in dict.fromkeys(traces):
+        short[name] = apart(name, room, list(short.values())) if room >= 8 else name
+    return short
+
+
+def named(traces: Sequence[str], endings: Sequence[str]) -> List[str]:
+    """A name for each case, from its trace and its ending; no two are equal. Traces are shortened as far as the longest
+    ending needs it, and the same in all cases."""
+    short = short_names(traces, LONGEST_NAME - max(map(len, endings), default=0))
+    names: Dict[str, bool] = {}
+    for name, ending in zip(traces, endings):
+        names[apart(short[name] + ending, LONGEST_NAME, names)] = True
+    return list(names)
+
+
+# ---- the grid
+
+
+@dataclass(frozen=True)
+class Point:
+    """A point of the grid: what a case is made of. `at` is the number of the loss in the grid's list."""
+
+    trace: str
+    sender: Sender | Steps
+    queue: int
+    delay_us: int
+    loss: Loss
+    at: int
+    seed: int | None
+    mark: int | None
+    cwnd: int | None
+
+
+@dataclass
+class Grid:
+    """What a scenario is made of; the defaults are those of the options. Times are in microseconds but for `cut_ms`.
+
+    `traces` are pairs of a name (or None, then by the file) and a file. `seconds_us` is the length in place of `acks`.
+    `shared` is the bottleneck of all flows, as the member of a scenario, and `steps` are those of a rollout."""
+
+    traces: List[Tuple[str | None, str]]
+    senders: List[Sender] = field(default_factory=lambda: [sender(name) for name in AGENTS])
+    portus: List[Tuple[str, str]] = field(default_factory=list)
+    queue: List[int] = field(default_factory=lambda: [100])
+    delay_us: List[int] = field(default_factory=lambda: [20_000])
+    losses: List[Loss] = field(default_factory=lambda: [Loss("none")])
+    seeds: List[int] = field(default_factory=lambda: [1])
+    mark: List[int | None] = field(default_factory=lambda: [None])
+    mss: int = 1448
+    acks: int = 4096
+    seconds_us: int | None = None
+    timeout_us: int = 1_000_000
+    slots: int = 4
+    lag: int = 0
+    cut_ms: int | None = None
+    mode: str = "campaign"
+    shared: Dict[str, Any] | None = None
+    steps: List[Steps] | None = None
+    cwnd: List[int] | None = None
+    is_quiet: bool = False
+
+    def scenario(self) -> Scenario:
+        """The scenario. A file that can't be read, and a length that a trace doesn't have, is a CcpError."""
+        traces = self.read_traces()
+        found, programs = resolved([] if self.steps else self.senders, self.portus)
+        for name in [name for one in self.steps or [] for name in one.steps]:
+            if name not in programs:
+                raise CcpError("no --portus has the name %s" % name)
+        made: Scenario = {"version": 1, "programs": programs}
+        made["traces"] = {name: trace_text(times) for name, times in traces.items()}
+        points = list(self.points(traces, self.steps or found))
+        if self.shared:
+            made["shared"] = with_length(self, traces, len(points))
+        made["cases"] = self.cases(traces, points)
+        return made
+
+    def read_traces(self) -> Dict[str, List[int]]:
+        """The times of each trace by its name."""
+        traces: Dict[str, List[int]] = {}
+        for name, path in self.traces:
+            if name in traces:
+                raise CcpError("two traces have the name %s" % name)
+            traces[name or trace_name(path, traces)] = self.read_times(path)
+        return traces
+
+    def read_times(self, path: str) -> List[int]:
+        """The times of a trace file, up to the cut where there is one."""
+        cut = self.cut_ms
+        times = read_trace(path, None if cut else LIMITS["trace_ms"])
+        if not cut or times[-1] <= cut:
+            return times
+        kept = [time for time in times if time <= cut]
+        if not kept or not kept[-1]:
+            raise CcpError("%s: there is no time from 1 to %d ms, so --cut %d leaves nothing" % (path, cut, cut))
+        if not self.is_quiet:
+            print("ccp scenario: %s: cut at %d of its %d ms" % (path, kept[-1], times[-1]), file=sys.stderr)
+        return kept
+
+    def points(self, traces: Dict[str, Any], found: Sequence[Sender | Steps]) -> Iterator[Point]:
+        """The points of the grid in order."""
+        no_window: Sequence[int | None] = [None]
+        draws = [(at, one, seed) for at, one in enumerate(self.losses) for seed in self.seeds_of(one)]
+        axes = itertools.product(traces, found, self.queue, self.delay_us, draws, self.mark, self.cwnd or no_window)
+        for name, by, queue, delay_us, (at, one, seed), mark_at, cwnd in axes:
+            yield Point(name, by, queue, delay_us, one, at, seed, mark_at, cwnd)
+
+    def seeds_of(self, one: Loss) -> Sequence[int | None]:
+        """The seeds that a loss is drawn with: None alone where nothing is drawn."""
+        if not one.chances:
+            return [None]
+        return self.seeds if one.seed is None else [one.seed]
+
+    def ending(self, point: Point) -> str:
+        """What a case's name has after its trace: its sender, and each value that differs between cases."""
+        shown_values = [
+            (len(self.queue) > 1, "q%d" % point.queue),
+            (len(self.delay_us) > 1, "d" + milliseconds_text(point.delay_us)),
+            (len(self.losses) > 1, "l%d" % point.at),
+            (len(self.seeds) > 1 and point.seed is not None and point.loss.seed is None, "s%s" % point.seed),
+            (len(self.mark) > 1, "m%d" % (point.mark or 0)),
+            (len(self.cwnd or []) > 1, "w%s" % point.cwnd),
+        ]
+        return "-".join(["", point.sender.label] + [text for is_shown, text in shown_values if is_shown])
+
+    def cases(self, traces: Dict[str, List[int]], points: Sequence[Point]) -> List[Dict[str, Any]]:
+        """The cases of the points, each with a name of its own."""
+        names = named([point.trace for point in points], [self.ending(point) for point in points])
+        pairs = dict.fromkeys((point.trace, point.delay_us) for point in points)
+        counts = {(name, delay_us): self.acks_of(traces[name], name, delay_us) for name, delay_us in pairs}
+        return [self.case(one, name, counts[one.trace, one.delay_us]) for one, name in zip(points, names)]
+
+    def acks_of(self, times: List[int], name: str, delay_us: int) -> int:
+        """The acknowledgements of a case: those asked for, or those that a busy link gives in the seconds asked for."""
+        if not self.seconds_us or self.shared:
+            return self.acks
+        link, most = Trace(times), LIMITS["acks"]
+        count, length = link.chances(self.seconds_us - delay_us), self.seconds_us / 1e6
+        if count > most:
+            longest = (link.chance_us(most - 1) + delay_us) // 1000
+            what = "%g s of the trace %s are %d acknowledgements, and a case has at most %d" % (
+                length,
+                name,
+                count,
+                most,
+            )
+            raise CcpError("%s: --seconds %d.%03d" % (what, *divmod(longest, 1000)))
+        if not count:
+            delay = milliseconds_text(delay_us)
+            raise CcpError("the trace %s has no chance in %g s less the delay of %s ms" % (name, length, delay))
+        return count
+
+    def case(self, point: Point, name: str, acks: int) -> Dict[str, Any]:
+        """The case of a point."""
+        made: Dict[str, Any] = {"name": name, "trace": point.trace, "mss": self.mss, "queue": point.queue}
+        made.update(delay_us=point.delay_us, timeout_us=self.timeout_us, acks=acks)
+        if isinstance(point.sender, Steps):
+            made.update(cwnd=point.cwnd, steps=list(point.sender.steps))
+        else:
+            made = {"name": name, "agent": point.sender.agent, **made, "slots": self.slots, "lag": self.lag}
+            programs = (("ss", point.sender.slow), ("ca", point.sender.avoid))
+            made.update({key: value for key, value in programs if value})
+        lost = point.loss.drawn(point.seed, 2 * acks)
+        if lost:
+            made["losses"] = lost
+        beside: Dict[str, Any] = {"mark": point.mark, "sender": point.sender.label, "loss": point.loss.label}
+        beside.update(rate=point.loss.rate, seed=point.seed)
+        made.update({key: value for key, value in beside.items() if value is not None})
+        return made
+
+
+def with_length(grid: Grid, traces: Dict[str, List[int]], flows: int) -> Dict[str, Any]:
+    """The member `shared`, with its rounds; where seconds are given, each flow may have all that the link serves."""
+    link = dict(grid.shared or {})
+    if link["trace"] not in traces:
+        raise CcpError("--shared: there is no trace %s; there are %s" % (link["trace"], ", ".join(traces)))
+    if grid.seconds_us:
+        link.setdefault("rounds", -(-grid.seconds_us // link["quantum_us"]))
+        if link["rounds"] > LIMITS["rounds"]:
+            length = grid.seconds_us / 1e6
+            text = "%g s are %d rounds, and a run has at most %d: a longer quantum"
+            raise CcpError(text % (length, link["rounds"], LIMITS["rounds"]))
+        until = link["rounds"] * link["quantum_us"]
+        served = Trace(traces[link["trace"]]).chances(until)
+        grid.acks = min(served, LIMITS["acks"], LIMITS["acks_in_all"] // max(1, flows))
+    return link
+
+
+# ---- limits
+
+
+def check_limits(mode: str, made: Scenario, size: int, is_whole: bool) -> None:
+    """Refuses what the limits of a mode forbid; `size` is that of the scenario's text in bytes. With `is_whole` only
+    what no part of the scenario could be is refused."""
+    cases, acks = len(made["cases"]), sum(case["acks"] for case in made["cases"])
+    out = "; --whole writes it for `ccp over%s`, which splits it" % SPLIT[mode] if mode in SPLIT else ""
+    if is_whole:
+        check_longest(made)
+    elif cases > CASES[mode]:
+        raise CcpError("%d cases: one run of `%s` has at most %d%s" % (cases, mode, CASES[mode], out))
+    elif mode != "campaign" and acks > LIMITS["acks_in_all"]:
+        text = "%d acknowledgements in all: one run of `%s` has at most %d: fewer by --acks or --seconds%s"
+        raise CcpError(text % (acks, mode, LIMITS["acks_in_all"], out))
+    elif size > LIMITS["input_bytes"]:
+        text = "%d bytes (%d of traces): one run has at most %d: fewer cases or losses, or traces cut by --cut MS%s"
+        raise CcpError(text % (size, bytes_of(made, made["traces"]), LIMITS["input_bytes"], out))
+
+
+def bytes_of(made: Scenario, traces: Mapping[str, Any] | Sequence[str]) -> int:
+    """The bytes of these traces in the scenario's text."""
+    with_them = {**made, "cases": [], "traces": {name: made["traces"][name] for name in traces}}
+    return len(scenario_text(with_them)) - len(scenario_text({**with_them, "traces": {}}))
+
+
+def check_longest(made: Scenario) -> None:
+    """Refuses a case that no run accepts, since it and its trace alone are too long."""
+    bare = len(scenario_text({**made, "traces": {}, "cases": []}))
+    traces = {name: bytes_of(made, [name]) for name in made["traces"]}
+    for case in made["cases"]:
+        size = bare + traces[case["trace"]] + len(scenario_text({"cases": [case]}))
+        if size > LIMITS["input_bytes"]:
+            what = "the case %s alone has %d bytes (%d of its trace)" % (case["name"], size, traces[case["trace"]])
+            raise CcpError("%s, and one run has at most %d: cut the trace by --cut MS" % (what, LIMITS["input_bytes"]))
+
+
+def size_text(mode: str, made: Scenario, size: int) -> str:
+    """What --dry-run prints."""
+    acks = sum(case["acks"] for case in made["cases"])
+    lines = [
+        "cases=%d of at most %d" % (len(made["cases"]), CASES[mode]),
+        "bytes=%d of at most %d" % (size, LIMITS["input_bytes"]),
+        "acknowledgements=%d%s" % (acks, "" if mode == "campaign" else " of at most %d" % LIMITS["acks_in_all"]),
+    ]
+    for name, text in made["traces"].items():
+        length = int(text.rsplit("\n", 2)[-2]) / 1e3
+        values = (name, text.count("\n"), length, bytes_of(made, [name]))
+        lines.append("trace %s chances=%d seconds=%g bytes=%d" % values)
+    return "\n".join(lines) + "\n"
+
+
+# ---- arguments
+
+
+def add_grid(parser: argparse.ArgumentParser) -> None:
+    """Adds the trace files, the senders and the options of the grid, which `grid_of` reads, as for `ccp compare`."""
+    count, delay, lists = whole(1, LIMITS["queue"]), LIMITS["delay_us"], "LIST"
+    add = parser.add_argument
+    add(
+        "traces",
+        nargs="+",
+        type=trace,
+        metavar="[NAME=]TRACE-FILE",
+        help="a recording; there is a case or more for each",
+    )
+    add_senders(parser)
+    add(
+        "--queue",
+        type=ranges(count, count),
+        metavar=lists,
+        help="packets that may wait at the bottleneck, 1 to 4096 (100)",
+    )
+    delays = ranges(milliseconds(0, delay), milliseconds(1, delay))
+    add(
+        "--delay-ms",
+        type=delays,
+        metavar=lists,
+        help="from a packet's chance to its acknowledgement, 0 to 10000 ms (20)",
+    )
+    what = "none, 17+40+900, rate:P[:SEED] or gilbert:P:R[:SEED] (none)"
+    add("--losses", type=list_of(loss), metavar=lists, help=what)
+    add(
+        "--seeds", type=ranges(whole(0, 2**32 - 1)), metavar=lists, help="seeds of the losses by chance, as 1..20 (1)"
+    )
+    what = "waiting packets from which on a packet is marked, 1 to 4096, or none (none)"
+    add("--mark", type=ranges(mark, count), metavar=lists, help=what)
+    add("--mss", type=whole(1, LIMITS["segment_bytes"]), metavar="BYTES", help="bytes of a segment (1448)")
+    length = parser.add_mutually_exclusive_group()
+    what = "acknowledgements of a case, at most 65536 (4096)"
+    length.add_argument("--acks", type=whole(0, LIMITS["acks"]), metavar="N", help=what)
+    length.add_argument("--seconds", type=seconds, metavar="S", help="the length in place of acknowledgements")
+    what = "how long a sender waits if no acknowledgement can arrive, up to 60000 ms (1000)"
+    add("--timeout-ms", type=milliseconds(1, LIMITS["timeout_us"]), metavar="MS", help=what)
+    add("--slots", type=whole(1, LIMITS["slots"]), metavar="N", help="reports that may wait (4)")
+    what = "acknowledgements that an answer takes in a campaign (0)"
+    add("--lag", type=whole(0, LIMITS["lag"]), metavar="N", help=what)
+    add("--cut", type=whole(1, LIMITS["trace_ms"]), metavar="MS", help="only the times of each trace up to this one")
+
+
+def add_arguments(parser: argparse.ArgumentParser) -> None:
+    """Adds the arguments of `ccp scenario`."""
+    add_grid(parser)
+    add = parser.add_argument
+    what = "of rollout: the programs of a flow in order, as slow+grow; a case for each"
+    add("--steps", type=list_of(steps), metavar="LIST", help=what)
+    windows = ranges(whole(0, 2**32 - 1))
+    add("--cwnd", type=windows, metavar="LIST", help="of rollout: the first window in bytes (10 segments)")
+    what = "the mode that the limits are checked for (campaign)"
+    add("--for", dest="mode", choices=CASES, default="campaign", help=what)
+    form = "TRACE:QUEUE:QUANTUM-MS[:ROUNDS]"
+    add("--shared", type=shared, metavar=form, help="the bottleneck of all flows, for the mode shared")
+    add("--whole", action="store_true", help="no limits of one run: for `ccp over`")
+    what = "the numbers of cases, bytes and acknowledgements in place of the scenario"
+    add("--dry-run", action="store_true", help=what)
+    deprecated(parser, "--agents", "--senders")
+    deprecated(parser, "--program", "--portus")
+
+
+# the members of Grid that have another name than their option
+MEMBERS = {
+    "delay_ms": "delay_us",
+    "seconds": "seconds_us",
+    "timeout_ms": "timeout_us",
+    "cut": "cut_ms",
+    "quiet": "is_quiet",
+}
+
+
+def grid_of(arguments: argparse.Namespace) -> Grid:
+    """The grid that arguments ask for; what doesn't go together is a UsageError."""
+    values = {MEMBERS.get(name, name): value for name, value in vars(arguments).items() if value is not None}
+    grid = Grid(**{name: value for name, value in values.items() if name in Grid.__dataclass_fields__})
+    check_mode(grid, arguments)
+    if arguments.seeds and not any(one.chances and one.seed is None for one in grid.losses):
+        forms = "--losses rate:P or gilbert:P:R"
+        raise UsageError("--seeds needs losses by chance without a seed of their own: %s" % forms)
+    if grid.shared and "rounds" not in grid.shared and not grid.seconds_us:
+        raise UsageError("--shared needs ROUNDS, or --seconds")
+    if MODES[grid.mode].kind == "rollout":
+        grid.cwnd = grid.cwnd or [10 * grid.mss]
+    return grid
+
+
+def check_mode(grid: Grid, arguments: argparse.Namespace) -> None:
+    """Refuses options that aren't of the mode."""
+    kind = MODES[grid.mode].kind
+    if kind == "rollout":
+        if not grid.steps or arguments.senders:
+            raise UsageError("%s needs --steps, and has no --senders" % grid.mode)
+    elif grid.steps or grid.cwnd:
+        raise UsageError("--steps and --cwnd are of --for rollout")
+    if (kind == "shared") != bool(grid.shared):
+        raise UsageError("--for shared and --shared TRACE:QUEUE:QUANTUM-MS[:ROUNDS] go together")
+    if getattr(arguments, "whole", False) and grid.mode not in SPLIT:
+        raise UsageError("--whole is of --for campaign, timeline and acks: a run of %s can't be split" % grid.mode)
+
+
+def make(words: Sequence[str]) -> Scenario:
+    """The scenario that `ccp scenario WORD..` prints. Its limits aren't checked."""
+    parser = Parser(prog="ccp scenario")
+    add_arguments(parser)
+    return grid_of(parser.parse_args(list(words))).scenario()
+
+
+def run(arguments: argparse.Namespace) -> int:
+    """Prints the scenario, or its size."""
+    grid = grid_of(arguments)
+    made = grid.scenario()
+    text = scenario_text(made)
+    if arguments.dry_run:
+        sys.stdout.write(size_text(grid.mode, made, len(text)))
+    check_limits(grid.mode, made, len(text), arguments.whole)
+    if not arguments.dry_run:
+        sys.stdout.write(text)
+    return 0

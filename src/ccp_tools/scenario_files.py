@@ -1,0 +1,43 @@
+"""Reads and writes scenarios, which are JSON objects (docs/scenarios.md)."""
+from __future__ import annotations
+
+import json
+from pathlib import Path
+from typing import Any, Dict, Mapping
+
+from .errors import CcpError
+from .files import PathLike, name_of, read_text, write_text
+
+Scenario = Dict[str, Any]
+
+
+def scenario_of(text: str, place: str = "scenario") -> Scenario:
+    """The value of a scenario's text, which has to be a JSON object; `place` names it where it is refused."""
+    try:
+        made = json.loads(text)
+    except json.JSONDecodeError as error:
+        raise CcpError("%s:%d:%d: no JSON: %s" % (place, error.lineno, error.colno, error.msg)) from None
+    except (RecursionError, ValueError) as error:  # ValueError: an integer of more digits than Python reads
+        what = "it is nested too deeply" if isinstance(error, RecursionError) else "a number has too many digits"
+        raise CcpError("%s: no JSON: %s" % (place, what)) from None
+    if not isinstance(made, dict):
+        raise CcpError("%s: a scenario is a JSON object" % place)
+    return made
+
+
+def read_scenario(path: PathLike) -> Scenario:
+    """The scenario in a file, as a dict; `-` is standard input."""
+    return scenario_of(read_text(path), name_of(path))
+
+
+def scenario_text(scenario: Mapping[str, Any]) -> str:
+    """The JSON text of a scenario, with a line for each case."""
+    cases = ",\n  ".join(json.dumps(case) for case in scenario["cases"])
+    rest = {name: value for name, value in scenario.items() if name != "cases"}
+    head = ",\n ".join("%s: %s" % (json.dumps(name), json.dumps(value)) for name, value in rest.items())
+    return '{%s,\n "cases": [\n  %s\n ]}\n' % (head, cases)
+
+
+def write_scenario(scenario: Mapping[str, Any], path: str | Path) -> None:
+    """Writes a scenario to a file."""
+    write_text(path, scenario_text(scenario))

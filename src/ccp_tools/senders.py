@@ -1,0 +1,156 @@
+"""Lists of senders, as --senders of every command takes them.
+
+A sender is an agent, as `reno`, or an agent with programs of your own:
+
+    AGENT                       reno or cubic, with the built-in programs
+    LABEL=PROGRAM               the program in slow start and in congestion avoidance, with Reno as the agent
+    [LABEL=]AGENT:PROGRAM       the same with this agent
+    [LABEL=]AGENT:SLOW:AVOID    a program for each; the built-in one where a program is left out, as in reno::AVOID
+
+A PROGRAM is a name that --portus NAME=FILE gives, or a file."""
+from __future__ import annotations
+
+import argparse
+from dataclasses import dataclass
+from typing import Dict, List, Mapping, Sequence, Tuple
+
+from .arguments import Parse, add_portus, is_name, list_of, shown
+from .errors import CcpError, UsageError
+from .files import read_text
+from .tables import AGENTS, LIMITS
+
+FORMS = "AGENT, LABEL=PROGRAM, [LABEL=]AGENT:PROGRAM and [LABEL=]AGENT:SLOW-START:AVOIDANCE"
+
+
+@dataclass(frozen=True)
+class Sender:
+    """A sender: its label, its agent, and its programs for slow start and for congestion avoidance. A program is a
+    name of --portus or a file's path, and None where the built-in one runs."""
+
+    label: str
+    agent: str
+    slow: str | None = None
+    avoid: str | None = None
+
+    def programs(self) -> List[str]:
+        """Its own programs, each once."""
+        return list(dict.fromkeys(name for name in (self.slow, self.avoid) if name))
+
+
+def sender(text: str) -> Sender:
+    """A parser of one sender."""
+    label, is_labelled, rest = text.partition("=")
+    if not is_labelled:
+        label, rest = "", text
+    elif not is_name(label) or label in AGENTS and rest != label:
+        names = " and ".join(AGENTS)
+        raise argparse.ArgumentTypeError(
+            "%s: a label has 1 to 32 letters, digits, _, - and ., and isn't %s" % (shown(text), names)
+        )
+    agent, *programs = rest.split(":") if rest.split(":")[0] in AGENTS else ["reno", rest] if label else [rest]
+    if agent not in AGENTS or len(programs) > 2 or (programs and not programs[-1]):
+        accepted = "%s are accepted, where AGENT is %s" % (FORMS, " or ".join(AGENTS))
+        raise argparse.ArgumentTypeError("%s is no sender: %s" % (shown(text), accepted))
+    slow, avoid = (programs[0] or None, programs[-1]) if programs else (None, None)
+    return Sender(label or label_of(agent, slow, avoid), agent, slow, avoid)
+
+
+def label_of(agent: str, slow: str | None, avoid: str | None) -> str:
+    """The label of a sender that has none of its own: its agent and its programs, with dots between."""
+    parts = [agent, *(base_name(name) for name in (slow, avoid) if name)]
+    return ".".join(dict.fromkeys(parts))
+
+
+def base_name(program: str) -> str:
+    """A program's name, or that of its file without folders and without its ending."""
+    if is_name(program) and "/" not in program and not program.endswith(".portus"):
+        return program
+    base = program.rpartition("/")[2]
+    base = base[: -len(".portus")] if base.endswith(".portus") else base
+    return "".join(letter if is_name(letter) else "-" for letter in base) or "program"
+
+
+def senders(most: int | None = None) -> Parse[List[Sender]]:
+    """A parser of a list of at most `most` senders with different labels, for commands in which a label stands for one
+    sender. Flows over one bottleneck may have the same sender, so `add_senders` has no such rule."""
+    listed = list_of(sender, most)
+
+    def parse(text: str) -> List[Sender]:
+        found = listed(text)
+        try:
+            check_labels(found)
+        except UsageError as error:
+            raise argparse.ArgumentTypeError(str(error)) from None
+        return found
+
+    return parse
+
+
+def check_labels(found: Sequence[Sender]) -> None:
+    """Refuses senders with equal labels, where a label stands for one of them."""
+    labels = [one.label for one in found]
+    for label in labels:
+        if labels.count(label) > 1:
+            raise UsageError("two senders have the label %s: LABEL=AGENT:.. gives another" % label)
+
+
+def add_senders(parser: argparse._ActionsContainer, most: int | None = None, required: bool = False) -> None:
+    """Adds --senders LIST, as the list `arguments.senders` (None where it isn't given), and --portus NAME=FILE."""
+    what = "the senders, with commas between: %s" % ", ".join([*AGENTS, "LABEL=PROGRAM", "LABEL=AGENT:PROGRAM"])
+    parser.add_argument("--senders", type=list_of(sender, most), required=required, metavar="LIST", help=what)
+    add_portus(parser)
+
+
+def resolved(found: Sequence[Sender], portus: Sequence[Tuple[str, str]]) -> Tuple[List[Sender], Dict[str, str]]:
+    """The senders with names of programs alone, and the programs' texts by their names. A file that --senders names
+    has the sender's label as its name, or LABEL.ss and LABEL.ca where two files are named."""
+    texts = {name: read_text(path) for name, path in portus}
+    made = []
+    for one in found:
+        slow, avoid = (named_in(one, role, texts) for role in ("slow", "avoid"))
+        made.append(Sender(one.label, one.agent, slow, avoid))
+    if len(texts) > LIMITS["named_programs"]:
+        raise CcpError("%d programs: a scenario has at most %d" % (len(texts), LIMITS["named_programs"]))
+    return made, texts
+
+
+def named_in(one: Sender, role: str, texts: Dict[str, str]) -> str | None:
+    """The name of a sender's program in a role; a file's text is read, and added to the texts."""
+    program = getattr(one, role)
+    if program is None or program in texts:
+        return program
+    name = one.label if one.slow == one.avoid else "%s.%s" % (one.label, "ss" if role == "slow" else "ca")
+    text = text_of_program(one, program)
+    if not is_name(name) or texts.get(name, text) != text:
+        raise CcpError("the sender %s: its program needs a name of its own: --portus NAME=%s" % (one.label, program))
+    texts[name] = text
+    return name
+
+
+def text_of_program(one: Sender, program: str) -> str:
+    """The text of a program's file; where there is none, the error says what was looked for."""
+    try:
+        return read_text(program)
+    except CcpError as error:
+        if is_name(program):
+            more = "no --portus has the name %s, and there is no such file" % program
+            raise CcpError("the sender %s: %s" % (one.label, more if "No such file" in str(error) else error)) from None
+        raise
+
+
+def words_of(found: Sequence[Sender]) -> str:
+    """Senders as --senders takes them."""
+    words = []
+    for one in found:
+        if not one.programs():
+            words.append(one.agent)
+        elif one.slow == one.avoid:
+            words.append("%s=%s:%s" % (one.label, one.agent, one.avoid))
+        else:
+            words.append("%s=%s:%s:%s" % (one.label, one.agent, one.slow or "", one.avoid))
+    return ",".join(words)
+
+
+def portus_words(texts: Mapping[str, str]) -> List[str]:
+    """The options --portus for files by their names."""
+    return [word for name, path in texts.items() for word in ("--portus", "%s=%s" % (name, path))]

@@ -1,0 +1,58 @@
+"""What all tests share: the program, the repository, and what a test needs that a machine may lack."""
+from __future__ import annotations
+
+import importlib.util
+import os
+import shutil
+from pathlib import Path
+
+import pytest
+import support
+
+from ccp_tools.program import find_program
+
+
+def pytest_addoption(parser: pytest.Parser) -> None:
+    parser.addoption("--program", metavar="PATH", help="the program ccp (CCP_PROGRAM, or the one that ./ccp runs)")
+
+
+def pytest_configure(config: pytest.Config) -> None:
+    if config.getoption("--program"):
+        os.environ["CCP_PROGRAM"] = os.path.abspath(config.getoption("--program"))
+
+
+@pytest.fixture(scope="session")
+def program() -> Path:
+    """The program; commands that a test starts find the same one."""
+    found = find_program()
+    os.environ["CCP_PROGRAM"] = str(found)
+    return found
+
+
+@pytest.fixture(scope="session")
+def program_path(program: Path) -> Path:
+    """The same, for tests that use a module of that name."""
+    return program
+
+
+@pytest.fixture(scope="session")
+def repository() -> Path:
+    """The top of the repository."""
+    return support.REPOSITORY
+
+
+def is_there(name: str) -> bool:
+    """Whether a command is on the PATH, or, with `import `, whether Python has a module."""
+    if name.startswith("import "):
+        return importlib.util.find_spec(name[len("import ") :]) is not None
+    return shutil.which(name) is not None
+
+
+def pytest_runtest_setup(item: pytest.Item) -> None:
+    """Skips a test whose needs aren't installed; with CCP_STRICT=1 it fails."""
+    for marker in item.iter_markers("needs"):
+        for name in marker.args:
+            if not is_there(name):
+                if os.environ.get("CCP_STRICT") == "1":
+                    pytest.fail("%s isn't installed: tools/install --tests" % name, pytrace=False)
+                pytest.skip("%s isn't installed" % name)

@@ -1,0 +1,72 @@
+"""What tests call: commands, the program, texts to read, and the needs of a test."""
+from __future__ import annotations
+
+import os
+import stat
+import subprocess
+import sys
+from pathlib import Path
+from typing import Any, Dict, Iterable, NamedTuple, Sequence
+
+import pytest
+
+from ccp_tools.program import find_program
+from ccp_tools.tables import COLUMNS, SUMS
+
+REPOSITORY = Path(__file__).resolve().parents[1]
+EXAMPLES = REPOSITORY / "examples"
+TRACES = [EXAMPLES / "traces" / (name + ".trace") for name in ("fixed", "wave", "train")]
+
+
+def needs(*names: str) -> pytest.MarkDecorator:
+    """Marks a test that uses commands, as "gnuplot", or modules of Python, as "import pandas"."""
+    return pytest.mark.needs(*names)
+
+
+class Ran(NamedTuple):
+    """What a command printed on standard output and on standard error, and its exit status."""
+
+    output: str
+    errors: str
+    status: int
+
+
+def ran(words: Sequence[object], given: str | bytes | None = None, **more: Any) -> Ran:
+    """Runs a command. Its input is empty where none is given; `env` adds to the environment."""
+    env = {**os.environ, "PYTHONPATH": str(REPOSITORY / "src"), "PYTHONDONTWRITEBYTECODE": "1", **more.pop("env", {})}
+    data = given.encode("utf-8", "surrogateescape") if isinstance(given, str) else given or b""
+    done = subprocess.run(
+        [str(word) for word in words], input=data, stdout=subprocess.PIPE, stderr=subprocess.PIPE, env=env, **more
+    )
+    return Ran(done.stdout.decode("utf-8", "surrogateescape"), done.stderr.decode("utf-8", "replace"), done.returncode)
+
+
+def command(name: str, *words: object, given: str | bytes | None = None, **more: Any) -> Ran:
+    """Runs `ccp NAME ..` of the package in a process of its own."""
+    return ran([sys.executable, "-m", "ccp_tools", name, *words], given, **more)
+
+
+def ccp(*words: object, given: str | bytes | None = None) -> Ran:
+    """Runs the program itself."""
+    return ran([find_program(), *words], given)
+
+
+def has_mode(name: str) -> bool:
+    """Whether the program has a mode; another one refuses the word."""
+    return ccp(name).status != 2
+
+
+def table_text(rows: Iterable[Dict[str, Any]]) -> str:
+    """The text of a table: each row is a dict of columns, and any other number of it is 0."""
+    whole = [{**dict.fromkeys(COLUMNS, 0), **row} for row in rows]
+    total = ["cases=%d" % len(whole)] + ["%s=%d" % (name, sum(row[name] for row in whole)) for name in SUMS]
+    lines = [COLUMNS, *([str(row[name]) for name in COLUMNS] for row in whole), ["total", *total]]
+    return "".join(" ".join(line) + "\n" for line in lines)
+
+
+def script(folder: Path, name: str, text: str, first: str = "#!/usr/bin/env bash\n") -> Path:
+    """A new executable in a folder: a script of bash, unless another first line is given."""
+    path = folder / name
+    path.write_text(first + text, encoding="utf-8")
+    path.chmod(path.stat().st_mode | stat.S_IXUSR)
+    return path
