@@ -1,0 +1,99 @@
+"""A link over a trace, as docs/link.md has it. All times are in microseconds of virtual time."""
+from __future__ import annotations
+
+from dataclasses import dataclass
+from typing import Any, Dict, List, Mapping, Optional
+
+from ..tables import LIMITS, PRIMITIVES
+
+
+class Trace:
+    """When a link can serve a packet. `times` are the times of its text in milliseconds."""
+
+    def __init__(self, text: str) -> None:
+        self.times = [int(line.strip(" \t\r")) for line in text.split("\n") if line.strip(" \t\r")]
+
+    def chance(self, k: int) -> int:
+        """When chance k, from 0, is."""
+        turns, at = divmod(k, len(self.times))
+        return 1000 * (self.times[-1] * turns + self.times[at])
+
+    def first(self, now: int, k: int) -> int:
+        """The number of the first chance at or after a time that is k or more."""
+        k = max(k, len(self.times) * (now // (1000 * self.times[-1]) - 1))
+        while self.chance(k) < now:
+            k += 1
+        return k
+
+
+@dataclass
+class Packet:
+    """A packet in flight. `at` is its chance and `arrival` that of its acknowledgement; both are None where it is lost."""
+
+    number: int
+    sent: int
+    at: Optional[int]
+    arrival: Optional[int]
+    marked: bool
+
+
+class Link:
+    """A case's own link: `next` gives one acknowledgement after another."""
+
+    def __init__(self, trace: Trace, case: Mapping[str, Any]) -> None:
+        self.trace = trace
+        self.case = case
+        self.now = self.rtt = self.sent = self.acked = self.chance = 0
+        self.losses = set(case.get("losses", []))
+        self.flight: List[Packet] = []
+        # the chances of the packets that wait
+        self.later: List[int] = []
+
+    def _send(self) -> Packet:
+        self.later = [at for at in self.later if at > self.now]
+        waiting = len(self.later)
+        number, self.sent = self.sent, self.sent + 1
+        if number in self.losses or waiting >= self.case["queue"]:
+            return Packet(number, self.now, None, None, False)
+        self.chance = self.trace.first(self.now, self.chance)
+        at = self.trace.chance(self.chance)
+        self.chance += 1
+        if at > self.now:
+            self.later.append(at)
+        return Packet(number, self.now, at, at + self.case["delay_us"], self._marks(waiting))
+
+    def _marks(self, waiting: int) -> bool:
+        return "mark" in self.case and waiting >= self.case["mark"]
+
+    def next(self, window: int) -> Dict[str, int]:
+        """The next acknowledgement, or timeout, of a window in bytes."""
+        allowance = min(LIMITS["flight"], max(1, window // self.case["mss"]))
+        while len(self.flight) < allowance:
+            self.flight.append(self._send())
+        ack = dict.fromkeys(PRIMITIVES, 0)
+        arrived = next((packet for packet in self.flight if packet.arrival is not None), None)
+        if arrived is not None:
+            self._acknowledge(arrived, ack)
+        else:
+            self.now += self.case["timeout_us"]
+            ack.update(lost_pkts_sample=len(self.flight), was_timeout=1, rtt_sample_us=self.rtt)
+            self.flight = []
+        flight = len(self.flight)
+        ack.update(now=self.now, packets_in_flight=flight, bytes_in_flight=flight * self.case["mss"])
+        if self.now:
+            ack["rate_incoming"] = self.case["mss"] * self.acked * 1_000_000 // self.now
+            ack["rate_outgoing"] = self.case["mss"] * self.sent * 1_000_000 // self.now
+        return ack
+
+    def _acknowledge(self, packet: Packet, ack: Dict[str, int]) -> None:
+        assert packet.arrival is not None
+        mss = self.case["mss"]
+        lost = sum(other.number < packet.number for other in self.flight)
+        self.flight = [other for other in self.flight if other.number > packet.number]
+        self.now, self.rtt = packet.arrival, packet.arrival - packet.sent
+        self.acked += 1
+        ack.update(bytes_acked=mss, packets_acked=1, lost_pkts_sample=lost, rtt_sample_us=self.rtt)
+        if lost:
+            ack.update(bytes_misordered=mss, packets_misordered=1)
+        if packet.marked:
+            ack.update(ecn_bytes=mss, ecn_packets=1)
