@@ -1,79 +1,70 @@
-#!/usr/bin/env python3
-"""Says what is wrong with a scenario, a program or an input of fold, where, and how to mend it.
+"""The command `ccp explain`: what is said of an input, and how it is printed."""
+from __future__ import annotations
 
-    tools/explain [--for MODE] [FILE]
-
-Without a file, or with -, it reads standard input. It asks the program, and never says otherwise: what the program
-refuses is refused here, with its line and column, the line itself with a caret, and a sentence; all else is fine.
-Then come warnings: members that ccp ignores, two members of one name, cases of one name, what no case uses.
-
-    $ tools/explain mine.json
-    mine.json:7:26: refused: range cases[0].queue
-         7 |    "mss": 1448, "queue": 5000,
-           |                          ^^^^
-      A number is outside its range, or a list has too many or too few items. Write one inside the range.
-      `queue`: How many packets may wait at the link: a whole number from 1 to 4096.
-      Here is 5000.
-    tools/explain: refused by campaign
-
-Without --for, a text that begins with ( is a program, one with a line --- too is an input of fold, and one that
-begins with { a scenario: of rollout where its cases have steps or cwnd, of shared where it has that member, else of
-campaign.
-
-Exit status: 0 fine, perhaps with warnings; 1 refused; 2 wrong words, or no program to ask."""
 import argparse
-import sys
+from pathlib import Path
+from typing import List, Optional, Tuple
 
-sys.dont_write_bytecode = True
-import ccp
-from explaining import asking, folds, programs, scenarios
-from explaining.shown import Finding, Text, printed
+from ..arguments import add_ccp
+from ..errors import CcpError
+from ..files import name_of, read_bytes
+from ..program import find_program
+from ..tables import MODES
+from . import asking, folds, program_refusals, program_warnings, scenario_refusals, scenario_warnings
+from .findings import Finding, Text, hints_of_file, looks_like_trace, printed
+from .scenarios import Scenario
 
-SCENARIOS = [name for name, mode in ccp.MODES.items() if mode.cases]
-MODES = [name for name, mode in ccp.MODES.items() if mode.reads not in ("feed", "nothing")]
+SCENARIOS = [name for name, mode in MODES.items() if mode.cases]
+ASKED = [name for name, mode in MODES.items() if mode.kind not in ("feed", "nothing")]
 
 
 class Given:
-    """An input: its name, its bytes, and its text. A byte that isn't UTF-8 is a half surrogate in the text."""
+    """An input: its name, its bytes, and its text. A byte that isn't UTF-8 is a half surrogate in `text`; `latin` has one
+    character a byte."""
 
-    def __init__(self, path):
-        self.name = "standard input" if path == "-" else path
-        if path == "-":
-            self.data = sys.stdin.buffer.read()
-        else:
-            with open(path, "rb") as file:
-                self.data = file.read()
-        self.text = self.data.decode("utf-8", "surrogateescape")
-        self.latin = self.data.decode("latin-1")
+    def __init__(self, name: str, data: bytes) -> None:
+        self.name = name
+        self.data = data
+        self.text = data.decode("utf-8", "surrogateescape")
+        self.latin = data.decode("latin-1")
 
 
-def mode_of(given):
+def mode_of(given: Given) -> str:
     """The mode that an input looks like one of."""
     begins = given.text.lstrip("\ufeff \t\r\n")[:1]
-    separated = folds.separator_in(given.data)
+    separated = folds.separator_in(given.data) is not None or folds.has_near_separator(given.text)
     if begins in ("{", "[") or '"cases"' in given.text and begins != "(":
-        return "audit" if separated else scenarios.Scenario(given.name, given.text).mode()
-    if separated:
+        return "audit" if separated else Scenario(given.name, given.text).mode()
+    if separated or folds.has_ack_lines(given.text):
         return "fold"
     return "campaign" if given.name.endswith(".json") else "check"
 
 
-def in_bytes(given, found):
+# ---- refusals
+
+
+def too_long(given: Given, mode: str, reason: str) -> Finding:
+    """The finding of an input that is too long."""
+    limit = int(reason.split()[2])
+    hints = ["The input has %d bytes, and at most %d are taken." % (len(given.data), limit)]
+    if looks_like_trace(given.text):
+        hints.append("This looks like a trace: a scenario holds it in its member `traces`. `ccp trace cut` shortens it.")
+    elif mode in SCENARIOS:
+        option = scenario_refusals.SPLIT.get(mode)
+        over = "; `ccp over%s` runs it in parts" % option if option is not None else ""
+        hints.append("Shorten the traces or take fewer cases%s." % over)
+    return Finding("refused", 0, 0, reason, hints_of_file(given.data) + hints)
+
+
+def in_bytes(given: Given, found: Finding) -> Finding:
     """A finding at places of the bytes as one at places of the text."""
     for name in ("start", "end"):
-        setattr(found, name, len(given.data[: getattr(found, name)].decode("utf-8", "surrogateescape")))
+        at = given.data[: getattr(found, name)].decode("utf-8", "surrogateescape")
+        setattr(found, name, len(at))
     return found
 
 
-def too_long(given, mode, reason):
-    limit = int(reason.split()[2])
-    hints = ["The input has %d bytes, and at most %d are taken." % (len(given.data), limit)]
-    if mode in SCENARIOS:
-        hints.append("Shorten the traces or take fewer cases%s." % ("; `tools/campaign-over-machines%s` runs it in parts" % ccp.SPLIT[mode] if mode in ccp.SPLIT else ""))
-    return Finding("refused", 0, 0, reason, hints)
-
-
-def refusal_of(given, mode, reason):
+def refusal_of(given: Given, mode: str, reason: str) -> Tuple[Text, Finding]:
     """The text and the finding of what the program refuses."""
     text = Text(given.name, given.text)
     if reason.startswith("more than "):
@@ -84,70 +75,84 @@ def refusal_of(given, mode, reason):
         return text, in_bytes(given, folds.line_refusal(given.latin, int(reason.split()[2]), reason))
     if reason == "too many acknowledgements":
         return text, in_bytes(given, folds.too_many(given.latin, reason))
-    if ccp.MODES[mode].reads in ("program", "fold") and reason.startswith("program "):
-        return program_refusal(given, mode, reason)
-    scenario = scenario_of(given, mode)
-    found = scenarios.refusal_of(scenario, mode, reason, asking.sentences_of("scenarios.md"), asking.sentences_of("language.md"))
-    return scenario.text, found
+    if MODES[mode].kind in ("program", "fold") and reason.startswith("program "):
+        found = program_refusals.refusal_of(program_in(given, mode), reason[len("program ") :])
+        found.what = reason
+        return text, in_bytes(given, found)
+    scenario = scenario_in(given, mode)
+    return scenario.text, scenario_refusals.refusal_of(scenario, mode, reason)
 
 
-def program_refusal(given, mode, reason):
-    """The text and the finding of a program's refusal."""
-    source = given.latin
-    separated = folds.separator_in(given.data) if ccp.MODES[mode].reads == "fold" else None
-    found = programs.refusal_of(source[: separated[0]] if separated else source, reason[len("program "):], asking.sentences_of("language.md"))
-    found.what = reason
-    return Text(given.name, given.text), in_bytes(given, found)
+def program_in(given: Given, mode: str) -> str:
+    """The program's text of an input, one character a byte; in `fold` it is what is before the separator."""
+    separated = folds.separator_in(given.data) if MODES[mode].kind == "fold" else None
+    return given.latin[: separated[0]] if separated else given.latin
 
 
-def scenario_of(given, mode):
+def scenario_in(given: Given, mode: str) -> Scenario:
     """The scenario of an input; in `audit` it is what is before the separator."""
-    separated = folds.separator_in(given.data) if ccp.MODES[mode].reads == "audit" else None
+    separated = folds.separator_in(given.data) if MODES[mode].kind == "audit" else None
     data = given.data[: separated[0]] if separated else given.data
-    return scenarios.Scenario(given.name, data.decode("utf-8", "surrogateescape"))
+    return Scenario(given.name, data.decode("utf-8", "surrogateescape"))
 
 
-def explained(program, given, mode):
+# ---- what is accepted
+
+
+def remarks_on_program(given: Given, mode: str, output: str) -> List[Finding]:
+    """The warnings of an accepted program, and the fault that it met in `fold`."""
+    source = program_in(given, mode)
+    text = source.encode("latin-1").decode("utf-8", "surrogateescape")
+    found = [
+        Finding("warning", one.start, one.end, one.text, list(one.hints)) for one in program_warnings.warnings_of(text)
+    ]
+    separated = folds.separator_in(given.data) if MODES[mode].kind == "fold" else None
+    fault = folds.fault_of(source, given.latin[separated[1] :], output) if separated else None
+    return [in_bytes(given, one) for one in ([fault] if fault else []) + found]
+
+
+def explained(program: Optional[Path], given: Given, mode: str) -> Tuple[bool, Text, List[Finding]]:
     """Whether the program refuses an input, the text, and what is found in it."""
-    reason = asking.asked(program, mode, given.data)
+    reason, output = asking.refusal_of(program, mode, given.data)
+    is_scenario = MODES[mode].kind not in ("program", "fold")
     if reason is not None:
         text, found = refusal_of(given, mode, reason)
-        more = scenarios.warnings_of(scenario_of(given, mode), mode) if mode in SCENARIOS else []
+        more = scenario_warnings.warnings_of(scenario_in(given, mode), mode, False) if is_scenario else []
         return True, text, [found, *more]
-    if ccp.MODES[mode].reads in ("program", "fold"):
-        return False, Text(given.name, given.text), []
-    scenario = scenario_of(given, mode)
-    return False, scenario.text, scenarios.warnings_of(scenario, mode)
+    if not is_scenario:
+        return False, Text(given.name, given.text), remarks_on_program(given, mode, output)
+    scenario = scenario_in(given, mode)
+    return False, scenario.text, scenario_warnings.warnings_of(scenario, mode)
 
 
-def said(program, given, mode, is_quiet):
+def lines_of(program: Optional[Path], given: Given, mode: str, is_quiet: bool) -> Tuple[int, List[str]]:
     """The exit status and the lines that are printed of an input."""
     refused, text, found = explained(program, given, mode)
-    shown = [one for one in found if one.level == "refused" or not is_quiet]
+    shown = [one for one in found if one.level != "warning" or not is_quiet]
     lines = [line for one in shown for line in printed(text, one)]
-    count = len(shown) - refused
+    faults = sum(one.level == "fault" for one in shown)
+    count = len(shown) - refused - faults
+    verdict = "%s by %s" % ("refused" if refused else "accepted", mode) + (", with a fault" if faults else "")
     warned = ", %d warning%s" % (count, "" if count == 1 else "s") if count else ""
-    return int(refused), lines + ["tools/explain: %s by %s%s" % ("refused" if refused else "accepted", mode, warned)]
+    return int(refused), lines + ["ccp explain: %s%s" % (verdict, warned)]
 
 
-def main():
-    words = ccp.Words("explain", __doc__, usage=argparse.SUPPRESS)
-    words.add_argument("--for", dest="mode", choices=MODES, metavar="MODE", help="the mode to ask: %s" % ", ".join(MODES))
-    words.add_argument("--program", metavar="PATH", help="the program to ask; $CCP_PROGRAM, or the one that is built here, unless it is given")
-    words.add_argument("--quiet", action="store_true", help="no warnings")
-    words.add_argument("file", nargs="?", default="-", metavar="FILE")
-    asked = words.parse_args()
+def add_arguments(parser: argparse.ArgumentParser) -> None:
+    """Adds the arguments of `ccp explain`."""
+    modes = ", ".join(ASKED)
+    parser.add_argument("--for", dest="mode", choices=ASKED, metavar="MODE", help="the mode to ask: %s" % modes)
+    add_ccp(parser)
+    parser.add_argument("file", nargs="?", default="-", metavar="FILE", help="the input; standard input without it")
+
+
+def run(arguments: argparse.Namespace) -> int:
+    """Explains an input. Returns 0 where it is accepted and 1 where it is refused; an input that can't be read, and no
+    program to ask, are a CcpError of status 2."""
     try:
-        given = Given(asked.file)
-        program = ccp.find_program(asked.program)
-        status, lines = said(program, given, asked.mode or mode_of(given), asked.quiet)
-    except ccp.NoProgram as why:
-        words.error(str(why))
-    except OSError as why:
-        words.error("%s: %s" % (asked.file, why.strerror))
-    print("\n".join(lines))
-    sys.exit(status)
-
-
-if __name__ == "__main__":
-    main()
+        given = Given(name_of(arguments.file), read_bytes(arguments.file))
+        program = find_program(arguments.ccp)
+        status, lines = lines_of(program, given, arguments.mode or mode_of(given), arguments.quiet)
+    except CcpError as error:
+        raise CcpError(str(error), 2) from None
+    print("\n".join(lines).encode("utf-8", "replace").decode("utf-8"))
+    return status

@@ -9,7 +9,8 @@ nothing: `ccp` is proved, and this isn't. It is there
   definition that says something else than the pages is seen.
 
 Scenarios are dicts, as `ccp_tools.texts.read_scenario` returns them, and have to be ones that `ccp` accepts."""
-from .flow import Flow, Illegal, Programs, flows_of
+from .flow import Flow, Illegal, Programs, flows_of, forced
+from .judging import Refused, judged
 from .language import Fault, Meaning, State
 from .modes import acks, campaign, check_summary, fold, timeline
 
@@ -19,11 +20,14 @@ __all__ = [
     "Illegal",
     "Meaning",
     "Programs",
+    "Refused",
     "State",
     "acks",
     "campaign",
     "check_summary",
     "flows_of",
     "fold",
+    "forced",
+    "judged",
     "timeline",
 ]

@@ -296,3 +296,8 @@ def flows_of(scenario: Members, heard: Callable[[Acknowledgement], None] = lambd
     programs = Programs(scenario)
     for number, case in enumerate(scenario["cases"]):
         yield Flow(number, case, scenario["traces"], programs, heard)
+
+
+def forced(flow: Flow, counts: Sequence[Tuple[int, int]]) -> Optional[Tuple[int, str]]:
+    """`flow.run_counts(counts)`: makes the one word of some counts."""
+    return flow.run_counts(counts)

@@ -1,25 +1,27 @@
 """Asks the program whether a text is a live text of a scenario."""
+from __future__ import annotations
+
 import re
-import subprocess
+from pathlib import Path
+from typing import Optional, Union
 
-from ccp import NoProgram
+from .. import program as programs
+from ..errors import CcpError, NoProgram
 
 
-class Refused(Exception):
+class Refused(CcpError):
     """The scenario is refused, or the input is too long, with the program's line."""
 
+    status = 2
 
-def judged(program, scenario, text):
+
+def judged(program: Union[str, Path, None], scenario: bytes, text: bytes) -> Optional[int]:
     """None where the program says yes, else the number of the flow that it names."""
     data = scenario + (b"" if scenario.endswith(b"\n") else b"\n") + b"---\n" + text
-    try:
-        ran = subprocess.run([program, "audit"], input=data, stdout=subprocess.PIPE, stderr=subprocess.PIPE)
-    except OSError as why:
-        raise NoProgram("%s can't be run: %s" % (program, why.strerror))
-    errors = ran.stderr.decode("utf-8", "replace").strip()
-    if ran.returncode == 3:
-        raise Refused(errors)
-    found = re.fullmatch(rb"yes\n|no flow ([0-9]+)\n", ran.stdout)
-    if ran.returncode or not found:
-        raise NoProgram("%s audit ended with status %d: %s" % (program, ran.returncode, errors))
+    ran = programs.run("audit", data, program=program, check=False)
+    if ran.status == 3:
+        raise Refused(ran.errors.strip())
+    found = re.fullmatch(r"yes\n|no flow ([0-9]+)\n", ran.output)
+    if ran.status or not found:
+        raise NoProgram("%s audit ended with status %d: %s" % (program, ran.status, ran.errors.strip()), 2)
     return int(found.group(1)) if found.group(1) else None
