@@ -17,12 +17,11 @@ SENTENCE = (
 DASHES = ("--", "----", "\u2014", "\u2013-", "-\u2013", "\u2014-")
 ACK_LINE = re.compile(r"(?:[A-Za-z]+[.])?[a-z_]+=[0-9]+(?:[ \t]+\S+)*")
 FAULT_LINE = re.compile(r"^fault epoch=0 ack=([0-9]+) kind=(\w+) at=([0-9]+):([0-9]+)$", re.MULTILINE)
-# how the values of a fault are explained, by its kind
+# what a fault's kind means, and how it is avoided
 CAUSES = {
-    "Underflow": "the right part is larger than the left one, and there are no negative numbers. To stop at 0 write"
-    " `(- (max a b) b)`.",
-    "Overflow": "the result is above 18446744073709551615, the largest number.",
-    "ZeroDivisor": "the right part is 0. To divide by at least 1 write `(/ a (max 1 b))`.",
+    "Underflow": "There are no negative numbers: to stop at 0 write `(- (max a b) b)`.",
+    "Overflow": "The result is above 18446744073709551615, the largest number: bound a part by `min` first.",
+    "ZeroDivisor": "To divide by at least 1 write `(/ a (max 1 b))`.",
 }
 
 
@@ -198,9 +197,9 @@ def values_of(meaning: Meaning, fault: Fault, before: State, ack: Dict[str, int]
     assert node is not None
     shown = cut(re.sub(r"\s+", " ", meaning.tree.text[node.start : node.end]), 100)
     if node.head() == "ewma":
-        return ["In `%s` %d and %d meet: %s" % (shown, fault.left, fault.right, CAUSES[fault.kind])]
+        return ["In `%s` the values %d and %d meet." % (shown, fault.left, fault.right), CAUSES[fault.kind]]
     hints = ["In `%s` the left part is %d and the right part %d." % (shown, fault.left, fault.right)]
-    hints.append("So " + CAUSES[fault.kind])
+    hints.append(CAUSES[fault.kind])
     names = [leaf.text for part in node.parts[1:] for leaf in leaves_of(part) if part.is_list]
     known = Body(before.copy(), ack)
     values = ["`%s` was %d" % (name, known.read(name)) for name in dict.fromkeys(names) if is_known(meaning, name)]

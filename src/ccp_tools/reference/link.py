@@ -1,8 +1,9 @@
 """A link over a trace, as docs/link.md has it. All times are in microseconds of virtual time."""
 from __future__ import annotations
 
+from collections import deque
 from dataclasses import dataclass
-from typing import Any, Dict, List, Mapping, Optional
+from typing import Any, Deque, Dict, Mapping, Optional
 
 from ..tables import LIMITS, PRIMITIVES
 
@@ -45,12 +46,14 @@ class Link:
         self.case = case
         self.now = self.rtt = self.sent = self.acked = self.chance = 0
         self.losses = set(case.get("losses", []))
-        self.flight: List[Packet] = []
-        # the chances of the packets that wait
-        self.later: List[int] = []
+        # in the order of their numbers
+        self.flight: Deque[Packet] = deque()
+        # the chances of the packets that wait, which rise
+        self.later: Deque[int] = deque()
 
     def _send(self) -> Packet:
-        self.later = [at for at in self.later if at > self.now]
+        while self.later and self.later[0] <= self.now:
+            self.later.popleft()
         waiting = len(self.later)
         number, self.sent = self.sent, self.sent + 1
         if number in self.losses or waiting >= self.case["queue"]:
@@ -77,7 +80,7 @@ class Link:
         else:
             self.now += self.case["timeout_us"]
             ack.update(lost_pkts_sample=len(self.flight), was_timeout=1, rtt_sample_us=self.rtt)
-            self.flight = []
+            self.flight.clear()
         flight = len(self.flight)
         ack.update(now=self.now, packets_in_flight=flight, bytes_in_flight=flight * self.case["mss"])
         if self.now:
@@ -88,8 +91,9 @@ class Link:
     def _acknowledge(self, packet: Packet, ack: Dict[str, int]) -> None:
         assert packet.arrival is not None
         mss = self.case["mss"]
-        lost = sum(other.number < packet.number for other in self.flight)
-        self.flight = [other for other in self.flight if other.number > packet.number]
+        lost = 0
+        while self.flight.popleft() is not packet:
+            lost += 1
         self.now, self.rtt = packet.arrival, packet.arrival - packet.sent
         self.acked += 1
         ack.update(bytes_acked=mss, packets_acked=1, lost_pkts_sample=lost, rtt_sample_us=self.rtt)
