@@ -61,13 +61,13 @@ class Scenario:
         return self._of_cases() or self._of_total() or self._of_shared()
 
     def _asked(self, text: str) -> Optional[str]:
-        data = text.encode("utf-8", "surrogateescape")
+        data = encoded(text)
         line_end = b"\n" if self.ending and not data.endswith(b"\n") else b""
         return asked(self.program, self.mode, data + line_end + self.ending)[0]
 
     def _with_cases(self, items: str) -> str:
         assert self.cases is not None
-        return self.text[: self.cases.start] + "[" + items + "]" + self.text[self.cases.end :]
+        return self.text[: self.cases.start] + "[" + items + "]" + self.text[self.cases.end :].rstrip(" \t\r\n")
 
     def _source(self, first: int, end: int) -> str:
         """The text of the cases `first` to before `end`."""
@@ -80,8 +80,9 @@ class Scenario:
         assert self.cases is not None
         count = len(self.cases.is_)
         most = MODES[self.mode].cases or LIMITS["flows"]
-        if count != most and len(self.data) + 2 <= LIMITS["input_bytes"]:
-            reason = self._asked(self._with_cases(self._source(0, count) + ",0"))
+        question = self._with_cases(self._source(0, count) + ",0")
+        if count != most and is_short(question):
+            reason = self._asked(question)
             return None if reason == "wrong cases[%d]" % count else reason
         return self._of_cases_in_two()
 
@@ -93,7 +94,11 @@ class Scenario:
         reason = self._asked(self._with_cases(before + ",0" if before else "0"))
         if reason != "wrong cases[%d]" % last:
             return reason
-        reason = self._asked(self._with_cases(self._source(last, last + 1) + ",0"))
+        question = self._with_cases(self._source(last, last + 1) + ",0")
+        if not is_short(question):
+            # a single case, and not two bytes to spare
+            return self._asked(self.text)
+        reason = self._asked(question)
         if reason == "wrong cases[1]":
             return None
         return reason and re.sub(r"\bcases\[0\]", "cases[%d]" % last, reason)
@@ -108,6 +113,15 @@ class Scenario:
     def _of_shared(self) -> Optional[str]:
         """A refusal of the member `shared`, which comes last: without cases there is no round to run."""
         return self._asked(self._with_cases("")) if MODES[self.mode].kind == "shared" else None
+
+
+def encoded(text: str) -> bytes:
+    return text.encode("utf-8", "surrogateescape")
+
+
+def is_short(text: str) -> bool:
+    """Whether a text isn't longer than an input may be."""
+    return len(encoded(text)) <= LIMITS["input_bytes"]
 
 
 def cases_in(text: str) -> Optional[Value]:

@@ -67,7 +67,9 @@ class Watch:
         """The blocks that can run; of the others there are warnings."""
         last: Optional[Node] = None
         for block in self.program.blocks():
-            condition = constant_of(block.parts[1]) if len(block.parts) > 1 else None
+            if len(block.parts) < 2:
+                continue
+            condition = constant_of(block.parts[1])
             if last is not None:
                 line, _ = self.program.place(last.start)
                 text = "this block is never reached: the block of line %d always runs and has no `(fallthrough)`" % line
