@@ -9,6 +9,7 @@ nothing: `ccp` is proved, and this isn't. It is there
   definition that says something else than the pages is seen.
 
 Scenarios are dicts, as `ccp_tools.texts.read_scenario` returns them, and have to be ones that `ccp` accepts."""
+from . import link
 from .flow import Flow, Illegal, Programs, flows_of, forced
 from .judging import Refused, judged
 from .language import Fault, Meaning, State
@@ -29,5 +30,6 @@ __all__ = [
     "fold",
     "forced",
     "judged",
+    "link",
     "timeline",
 ]
