@@ -11,6 +11,7 @@ import pytest
 from rows_of import runs_of
 from support import EXAMPLES, REPOSITORY, command
 
+from ccp_tools import program as programs
 from ccp_tools.explain import asking, command as explain, program_refusals, scenario_refusals, scenarios, sentences, warnings_of
 from ccp_tools.explain.command import Given
 from ccp_tools.explain.findings import Finding, Text, nearest, printed
@@ -427,7 +428,7 @@ def test_scenarios(program: Path, text: str, holds: List[str]) -> None:
 
 @pytest.mark.parametrize("members", [{"agent": "Reno"}, {"trace": "T"}, {"mss": "1"}, {"name": ""}, {"losses": [3, 3]}, {"ss": 5}])
 def test_what_is_wrong_is_said_without_the_other_causes(program: Path, members: dict[str, Any]) -> None:
-    explained(program, scenario(**members), "campaign", holds=["refused: wrong cases[0]."], lacks=["A value has another kind"])
+    explained(program, scenario(**members), "campaign", holds=["refused: wrong cases[0]."], lacks=["A value has the wrong type"])
 
 
 def test_warnings_of_scenarios(program: Path) -> None:
@@ -494,6 +495,15 @@ def test_long_lines_are_cut(program: Path) -> None:
     text = scenario(queue=5000).replace("\n", " ").replace('"10', '"' + "10\\n" * 5000 + "10")
     printed_lines = explained(program, text, holds=["range cases[0].queue", ".. "]).split("\n")
     assert max(map(len, printed_lines)) < 200
+
+
+def test_the_first_example_of_the_page(program: Path) -> None:
+    """It is accepted without a warning, and its own program keeps its window and isn't answered."""
+    page = (REPOSITORY / "docs" / "scenarios.md").read_text(encoding="utf-8")
+    text = page.split("```json\n")[1].split("```")[0]
+    explained(program, text, status=0, holds=["accepted by campaign\n"])
+    row = programs.run_table(text, program=program).rows[1]
+    assert (row["epochs"], row["faults"], row["lost"], row["peak"]) == (1, 0, 2, 12 * 1448)
 
 
 # ---- that nothing is run

@@ -85,9 +85,9 @@ OF_SCENARIOS: Dict[str, Tuple[str, str]] = {
         "Add it.",
     ),
     "wrong": (
-        "A value has another kind, a name is empty, too long or has bytes that names may not have, a name is that of"
+        "A value has the wrong type, a name is empty, too long or has bytes that names may not have, a name is that of"
         " no trace or program, or losses don't rise.",
-        "Write a value of the kind that the member has.",
+        "Write a value of the type that the member has.",
     ),
     "range": (
         "A number is outside its range, or a list has too many or too few items.",
