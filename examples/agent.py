@@ -3,19 +3,19 @@
 
     examples/agent.py [--ccp PATH] [--flow N] [--mss BYTES] ACKS-FILE
 
-It plays a recorded list of acknowledgements to the datapath, which runs the built-in programs `reno.ss` and `reno.ca` on
-them. The agent, the class Reno below, reads each report and answers with a new window or another program. A line is
+It plays a recorded list of acknowledgements to the datapath, which runs the built-in programs `reno.ss` and `reno.ca`
+on them. The agent, the class Reno below, reads each report and answers with a new window or another program. A line is
 printed for each report and its answer, and one for the end.
 
-ACKS-FILE has a line for each acknowledgement, as `ccp acks` prints them and `ccp fold` takes them; of the flows of a file
-with `flow` lines, number N is played (0). `-` is standard input:
+ACKS-FILE has a line for each acknowledgement, as `ccp acks` prints them and `ccp fold` takes them; of the flows of a
+file with `flow` lines, number N is played (0). `-` is standard input:
 
     ./ccp acks examples/live.json | examples/agent.py -
 
-The recording is fixed: it shows what an agent decides, not what the link would have done with another window. Put your own
-agent in the place of Reno: it needs `begin`, `report` and `fault`, and what these give is an answer of the class Datapath.
-docs/frames.md has the bytes of the frames. The script needs nothing beside it, so a copy works anywhere; its Reno is there
-to be changed, and the model that tests compare with `ccp` is in ccp_tools.reference.
+The recording is fixed: it shows what an agent decides, not what the link would have done with another window. Put your
+own agent in the place of Reno: it needs `begin`, `report` and `fault`, and what these give is an answer of the class
+Datapath. docs/frames.md has the bytes of the frames. The script needs nothing beside it, so a copy works anywhere; its
+Reno is there to be changed, and the model that tests compare with `ccp` is in ccp_tools.reference.
 
 The program is the one of --ccp, else of $CCP_PROGRAM, else the one that is built in the checkout of this script:
 crates/ccp/out/ccp, or crates/ccp/out/checked/ccp, which isn't proved.
@@ -53,7 +53,8 @@ class Datapath:
         self.ask(*installs(program), frame(CREATE, struct.pack("<QI", window, mss)))
 
     def ask(self, *frames):
-        """The answers to these frames, each as (kind, body). A Create of flow 64 is always refused: it marks their end."""
+        """The answers to these frames, each as (kind, body). A Create of flow 64 is always refused: it marks their
+        end."""
         self.feed.stdin.write(b"".join(frames) + frame(CREATE, bytes(12), flow=64))
         self.feed.stdin.flush()
         answers = []
@@ -98,7 +99,8 @@ def value(place, number):
 
 
 def installs(program):
-    """The Install frames of the built-in programs, as `campaign --wire` prints them; a scenario's own come with them."""
+    """The Install frames of the built-in programs, as `campaign --wire` prints them; a scenario's own come with
+    them."""
     given = b'{"version": 1, "traces": {}, "cases": []}'
     ran = subprocess.run([program, "campaign", "--wire"], input=given, stdout=subprocess.PIPE)
     lines = [line.split() for line in ran.stdout.decode().splitlines()]

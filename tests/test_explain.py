@@ -12,7 +12,15 @@ from rows_of import runs_of
 from support import EXAMPLES, REPOSITORY, command
 
 from ccp_tools import program as programs
-from ccp_tools.explain import asking, command as explain, program_refusals, scenario_refusals, scenarios, sentences, warnings_of
+from ccp_tools.explain import (
+    asking,
+    command as explain,
+    program_refusals,
+    scenario_refusals,
+    scenarios,
+    sentences,
+    warnings_of,
+)
 from ccp_tools.explain.command import Given
 from ccp_tools.explain.findings import Finding, Text, nearest, printed
 from ccp_tools.tables import AGENTS, LIMITS, MODES, PRIMITIVE_WORDS
@@ -106,13 +114,19 @@ def test_agrees_with_the_program_over_rows(program: Path) -> None:
         refused, text, found = explain.explained(program, given_of(data), mode)
         assert refused == (reason is not None), name
         levels = [one.level for one in found]
-        assert levels.count("refused") == refused and levels[:1] == ["refused"] * refused + levels[:1] * (not refused), name
+        assert levels.count("refused") == refused and levels[:1] == ["refused"] * refused + levels[:1] * (
+            not refused
+        ), name
         seen[refused] += 1
         assert all(printed(text, one) for one in found), name
         if reason is not None:
             first = found[0]
             assert reason.rstrip() in first.what and first.hints, name
-            assert not is_wrong_place(mode, reason, text, first), "%s: %s at %s" % (name, reason, text.place(first.start))
+            assert not is_wrong_place(mode, reason, text, first), "%s: %s at %s" % (
+                name,
+                reason,
+                text.place(first.start),
+            )
     assert min(seen.values()) > 300, seen
 
 
@@ -160,7 +174,10 @@ def test_the_package_has_the_schema() -> None:
 # ---- programs
 
 PROGRAMS = [
-    ("(def (Report (acked 0)))\n(when (>= Report.acked 5) (report))", ["2:8: refused: program BadName at 2:8", ">=", "^^"]),
+    (
+        "(def (Report (acked 0)))\n(when (>= Report.acked 5) (report))",
+        ["2:8: refused: program BadName at 2:8", ">=", "^^"],
+    ),
     ("(def)\n(when (not true) (report))", ["2:7", "There is no `not`"]),
     ("(def (x -1))", ["1:9", "no negative numbers"]),
     ("(def)\n(when true (:= Cwnd (* Cwnd 1.5)))", ["2:29", "(/ (* x 15) 10)"]),
@@ -207,7 +224,9 @@ def test_an_undeclared_field_is_declared_and_never_a_local(program: Path) -> Non
         whole["programs"] = {"mine": UNDECLARED}
         explained(program, json.dumps(whole), "campaign", holds=["program mine Unknown at 2:16", *holds], lacks=lacks)
     explained(program, UNDECLARED.replace("Report.y", "Flow.rtt_us"), "check", lacks=["assign it"])
-    explained(program, "(def (x 0))\n(when true (:= y 1))\n(when (> y 1))", "check", holds=["assign it in this body first"])
+    explained(
+        program, "(def (x 0))\n(when true (:= y 1))\n(when (> y 1))", "check", holds=["assign it in this body first"]
+    )
 
 
 def test_a_fraction_as_the_weight_of_ewma(program: Path) -> None:
@@ -251,7 +270,9 @@ def texts_of(text: str) -> List[str]:
     return [str(one) for one in warnings_of(text)]
 
 
-QUIET = "(def (Report (volatile got 0)))\n(when true (:= Report.got (+ Report.got 1)) (:= Cwnd 1) (report) (fallthrough))\n"
+QUIET = (
+    "(def (Report (volatile got 0)))\n(when true (:= Report.got (+ Report.got 1)) (:= Cwnd 1) (report) (fallthrough))\n"
+)
 WARNED = [
     ("(when true (:= cwnd 5))", "3:16: `cwnd` is a local", "Did you mean `Cwnd`?"),
     ("(when true (:= got 5))", "3:16: `got` is a local", "`Report.got`"),
@@ -270,7 +291,13 @@ WARNED = [
 def test_warnings(program: Path, block: str, text: str, hint: str) -> None:
     found = warnings_of(QUIET + block)
     assert len(found) == 1 and text in str(found[0]) and hint in "\n".join(found[0].hints), found
-    explained(program, QUIET + block, "check", status=0, holds=["warning: " + found[0].text, hint, "accepted by check, 1 warning"])
+    explained(
+        program,
+        QUIET + block,
+        "check",
+        status=0,
+        holds=["warning: " + found[0].text, hint, "accepted by check, 1 warning"],
+    )
     explained(program, QUIET + block, "check", status=0, quiet=True, lacks=["warning"])
 
 
@@ -296,7 +323,9 @@ def test_fields_that_make_an_agent_answer() -> None:
     own = "(def (Report (volatile %s 0)))\n(when true (:= Report.%s 1) (:= Cwnd 9000) (report))"
     for name in ("acked", "loss", "timeout", "ecn"):
         found = warnings_of(own % (name, name))
-        assert [one.text for one in found] == ["an agent reads the field `%s`, and answers this program's reports" % name]
+        assert [one.text for one in found] == [
+            "an agent reads the field `%s`, and answers this program's reports" % name
+        ]
         assert (found[0].line, found[0].column) == (1, 24)
         assert "Choose another name" in found[0].hints[0]
     assert texts_of(own % ("rtt", "rtt")) == texts_of(own % ("lost", "lost")) == []
@@ -309,14 +338,34 @@ def test_no_report_and_no_window() -> None:
     assert len(texts_of("(def) (when true) (when true (:= Cwnd 1) (report))")) == 3
 
 
-@pytest.mark.parametrize("path", [*sorted((EXAMPLES / "senders").glob("*.portus")), EXAMPLES / "delay.portus", EXAMPLES / "early.portus", *sorted(EXAMPLES.glob("*_[cs][as].portus"))], ids=lambda path: path.stem)
+@pytest.mark.parametrize(
+    "path",
+    [
+        *sorted((EXAMPLES / "senders").glob("*.portus")),
+        EXAMPLES / "delay.portus",
+        EXAMPLES / "early.portus",
+        *sorted(EXAMPLES.glob("*_[cs][as].portus")),
+    ],
+    ids=lambda path: path.stem,
+)
 def test_senders_and_built_in_programs_have_no_warning(path: Path) -> None:
     assert texts_of(path.read_text(encoding="utf-8")) == []
 
 
 def test_warnings_of_what_is_refused_or_is_no_program() -> None:
     """They may be anything, and never break off."""
-    for text in ("", "(", ")", "()", "(def", "(when)", "(def) (when)", "(def) (when true (:= x))", "1\n2\n", "(def (Report"):
+    for text in (
+        "",
+        "(",
+        ")",
+        "()",
+        "(def",
+        "(when)",
+        "(def) (when)",
+        "(def) (when true (:= x))",
+        "1\n2\n",
+        "(def (Report",
+    ):
         assert isinstance(warnings_of(text), list)
     for name, _, data, _ in runs_of(["check", "fold"]):
         assert isinstance(warnings_of(given_of(data).text), list), name
@@ -348,7 +397,9 @@ def test_separators(program: Path) -> None:
     explained(program, "(def)\n--- \nnow=1\n", holds=["2:1: refused: no separator", "a blank after `---`"])
     explained(program, "(def)\n ---\nnow=1\n", holds=["2:1", "a blank before `---`"])
     holds = ["3:1: refused: no separator", "Put a line `---` before the acknowledgements."]
-    explained(program, "(def)\n(when true (report))\nnow=1 bytes_acked=5\nnow=2\n", holds=holds, lacks=["only comments"])
+    explained(
+        program, "(def)\n(when true (report))\nnow=1 bytes_acked=5\nnow=2\n", holds=holds, lacks=["only comments"]
+    )
     explained(program, "(def)\nnow=1\n", "check", holds=["`fold` reads them after the program and a line `---`"])
     explained(program, "(def)\r\n---\r\nnow=1\r\n", status=0, holds=["accepted by fold"])
 
@@ -377,7 +428,9 @@ def test_a_fault_of_an_example(program: Path, name: str) -> None:
 def test_a_fault_in_an_average_and_in_a_part_of_an_expression(program: Path) -> None:
     ewma = "(def (Report (mean +infinity)))\n(when true (:= Report.mean (ewma 8 Ack.now)) (report))\n---\nnow=1\n"
     explained(program, ewma, status=0, holds=["2:29: fault: Overflow", "the values 8 and 18446744073709551615 meet"])
-    part = "(def (Report (x 3)))\n(when true (:= Report.x (+ (- Report.x 1) (/ 8 (- Report.x 3)))) (report))\n---\nnow=1\n"
+    part = (
+        "(def (Report (x 3)))\n(when true (:= Report.x (+ (- Report.x 1) (/ 8 (- Report.x 3)))) (report))\n---\nnow=1\n"
+    )
     holds = ["2:44: fault: ZeroDivisor", "left part is 8 and the right part 0", "`Report.x` was 3"]
     explained(program, part, status=0, holds=holds)
 
@@ -426,9 +479,17 @@ def test_scenarios(program: Path, text: str, holds: List[str]) -> None:
     explained(program, text, "campaign", holds=holds)
 
 
-@pytest.mark.parametrize("members", [{"agent": "Reno"}, {"trace": "T"}, {"mss": "1"}, {"name": ""}, {"losses": [3, 3]}, {"ss": 5}])
+@pytest.mark.parametrize(
+    "members", [{"agent": "Reno"}, {"trace": "T"}, {"mss": "1"}, {"name": ""}, {"losses": [3, 3]}, {"ss": 5}]
+)
 def test_what_is_wrong_is_said_without_the_other_causes(program: Path, members: dict[str, Any]) -> None:
-    explained(program, scenario(**members), "campaign", holds=["refused: wrong cases[0]."], lacks=["A value has the wrong type"])
+    explained(
+        program,
+        scenario(**members),
+        "campaign",
+        holds=["refused: wrong cases[0]."],
+        lacks=["A value has the wrong type"],
+    )
 
 
 def test_warnings_of_scenarios(program: Path) -> None:
@@ -466,7 +527,11 @@ def test_warnings_of_programs_in_scenarios(program: Path) -> None:
     whole["programs"] = {"mine": "(def)\n# \u00fc\n(when true (:= cwnd 5)\n (:= Cwnd 5) (report))"}
     text = json.dumps(whole, indent=1, ensure_ascii=False)
     line = [at for at, one in enumerate(text.split("\n"), 1) if '"mine":' in one][0]
-    holds = ["row:%d:" % line, "warning: program `mine`: `cwnd` is a local of this body, and nothing reads it", "     3 | (when true (:= cwnd 5)"]
+    holds = [
+        "row:%d:" % line,
+        "warning: program `mine`: `cwnd` is a local of this body, and nothing reads it",
+        "     3 | (when true (:= cwnd 5)",
+    ]
     explained(program, text, status=0, holds=holds)
     whole["cases"][0].pop("ss")
     whole["cases"][0].pop("ca")
@@ -566,11 +631,15 @@ def test_a_scenario_of_the_most_bytes(program: Path) -> None:
         text = json.dumps(cases(count, acks=60_000))
         for length in range(LIMITS["input_bytes"] - 2, LIMITS["input_bytes"] + 1):
             explained(program, text + " " * (length - len(text)), "campaign", status=0, holds=["accepted by campaign"])
-        explained(program, text + " " * (LIMITS["input_bytes"] + 1 - len(text)), "campaign", holds=["more than 1048576 bytes"])
+        explained(
+            program, text + " " * (LIMITS["input_bytes"] + 1 - len(text)), "campaign", holds=["more than 1048576 bytes"]
+        )
 
 
 def test_counts_the_cases(program: Path) -> None:
-    explained(program, json.dumps(cases(5, acks=65536)), "timeline", holds=["327680 acknowledgements in 5 cases; the limit"])
+    explained(
+        program, json.dumps(cases(5, acks=65536)), "timeline", holds=["327680 acknowledgements in 5 cases; the limit"]
+    )
     whole = scenarios.Scenario("one", scenario(acks=262145))
     found = scenario_refusals.totals_refusal(whole, "timeline", "totals")
     assert "262145 acknowledgements in 1 case; the limit" in found.hints[1]
@@ -579,7 +648,9 @@ def test_counts_the_cases(program: Path) -> None:
 # ---- the command
 
 
-@pytest.mark.parametrize("name", ["campaign.json", "live.json", "shared.json", "rollout.json", "fault.ccp", "reno_ss.portus"])
+@pytest.mark.parametrize(
+    "name", ["campaign.json", "live.json", "shared.json", "rollout.json", "fault.ccp", "reno_ss.portus"]
+)
 def test_takes_the_examples(program: Path, name: str) -> None:
     ran = command("explain", "--ccp", program, EXAMPLES / name)
     assert ran.status == 0 and not ran.errors and "accepted" in ran.output
@@ -595,7 +666,9 @@ def test_standard_input(program: Path, words: List[str]) -> None:
 
 def test_help() -> None:
     ran = command("explain", "--help")
-    assert ran.status == 0 and not ran.errors and "ccp explain [--for MODE]" in ran.output and "Exit status" in ran.output
+    assert (
+        ran.status == 0 and not ran.errors and "ccp explain [--for MODE]" in ran.output and "Exit status" in ran.output
+    )
 
 
 def test_refuses_arguments(tmp_path: Path) -> None:

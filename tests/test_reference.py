@@ -1,4 +1,5 @@
-"""The reference model against the program: over random scenarios by hypothesis, over the examples, and by the generator."""
+"""The reference model against the program: over random scenarios by hypothesis, over the examples, and by the
+generator."""
 from __future__ import annotations
 
 import json
@@ -104,7 +105,9 @@ def test_examples(program: Path, name: str) -> None:
     """Each agent has every case that loses packets."""
     made = json.loads((EXAMPLES / (name + ".json")).read_text(encoding="utf-8"))
     cases = [{**case, "acks": min(case["acks"], 400)} for case in made["cases"][:12]]
-    others = [{**case, "agent": agent} for case in cases if "losses" in case for agent in AGENTS if agent != case["agent"]]
+    others = [
+        {**case, "agent": agent} for case in cases if "losses" in case for agent in AGENTS if agent != case["agent"]
+    ]
     made["cases"] = cases + others
     for mode, of in OF_MODES.items():
         assert programs.run(mode, made, program=program).output == of(made)
@@ -163,7 +166,18 @@ def test_each_input_is_made_again() -> None:
 
 def test_the_generator(program: Path) -> None:
     """A few inputs; the gate runs 2,000."""
-    words = ["--count", "24", "--seed", "3", "--ccp", program, "--jobs", "2", "--trials", "check,fold,feed,timeline,audit"]
+    words = [
+        "--count",
+        "24",
+        "--seed",
+        "3",
+        "--ccp",
+        program,
+        "--jobs",
+        "2",
+        "--trials",
+        "check,fold,feed,timeline,audit",
+    ]
     done = ran([sys.executable, "-m", "ccp_tools.reference.generate", *words])
     assert done.status == 0 and not done.errors, done.output
     assert "24 inputs in" in done.output and "0 failed" in done.output
@@ -171,7 +185,7 @@ def test_the_generator(program: Path) -> None:
 
 def test_the_generator_finds_what_is_wrong(tmp_path: Path, program: Path) -> None:
     """A program that is out of memory at times, one that prints another number, and one that refuses nothing."""
-    text = "#!/bin/sh\nif [ \"$1\" = %s ]; then %s; fi\nexec " + str(program) + ' "$@"\n'
+    text = '#!/bin/sh\nif [ "$1" = %s ]; then %s; fi\nexec ' + str(program) + ' "$@"\n'
     broken = {
         "fold": ("cat > /dev/null; echo 'ccp: no memory' >&2; exit 6", "fold ended with status 6"),
         "timeline": ("%s \"$@\" | sed 's/cwnd=/cwnd=1/'; exit 0" % program, "and is expected to be"),

@@ -1,5 +1,5 @@
-"""examples/scenario.schema.json over rows/: it accepts what `ccp` accepts, and refuses what `ccp` refuses but for what a
-schema can't say, each by its name below."""
+"""examples/scenario.schema.json over rows/: it accepts what `ccp` accepts, and refuses what `ccp` refuses but for what
+a schema can't say, each by its name below."""
 from __future__ import annotations
 
 import json

@@ -122,8 +122,8 @@ def row_of(window: float) -> Tuple[int, float]:
 
 
 def mean_by_model(window: float, packets: int, losses: int) -> float:
-    """The mean window over `losses` losses, one every `packets` packets, by the table alone and with no rounding: a packet
-    takes the part 1/window of a round trip."""
+    """The mean window over `losses` losses, one every `packets` packets, by the table alone and with no rounding: a
+    packet takes the part 1/window of a round trip."""
     sent, trips = 0, 0.0
     for _ in range(losses):
         for _ in range(packets):

@@ -1,7 +1,7 @@
 """Asks the program what it refuses in an input, without letting it run what it accepts.
 
-The program reads a scenario whole before it runs the first case, and refuses the first thing that is wrong. So a bad case
-behind the last one makes it stop there: a refusal of that case says that all before it is accepted."""
+The program reads a scenario whole before it runs the first case, and refuses the first thing that is wrong. So a bad
+case behind the last one makes it stop there: a refusal of that case says that all before it is accepted."""
 from __future__ import annotations
 
 import re

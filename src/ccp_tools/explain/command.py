@@ -19,8 +19,8 @@ ASKED = [name for name, mode in MODES.items() if mode.kind not in ("feed", "noth
 
 
 class Given:
-    """An input: its name, its bytes, and its text. A byte that isn't UTF-8 is a half surrogate in `text`; `latin` has one
-    character a byte."""
+    """An input: its name, its bytes, and its text. A byte that isn't UTF-8 is a half surrogate in `text`; `latin` has
+    one character a byte."""
 
     def __init__(self, name: str, data: bytes) -> None:
         self.name = name
@@ -48,7 +48,9 @@ def too_long(given: Given, mode: str, reason: str) -> Finding:
     limit = int(reason.split()[2])
     hints = ["The input has %d bytes, and at most %d are taken." % (len(given.data), limit)]
     if looks_like_trace(given.text):
-        hints.append("This looks like a trace: a scenario holds it in its member `traces`. `ccp trace cut` shortens it.")
+        hints.append(
+            "This looks like a trace: a scenario holds it in its member `traces`. `ccp trace cut` shortens it."
+        )
     elif mode in SCENARIOS:
         option = scenario_refusals.SPLIT.get(mode)
         over = "; `ccp over%s` runs it in parts" % option if option is not None else ""

@@ -14,7 +14,7 @@ WIDTH = 100
 @dataclass
 class Finding:
     """Something that is found at the characters `start` to before `end` of a text. Its level is `refused`, `fault` or
-    `warning`. `within` are lines to show in place of the text's own, as those of a program that stands in a scenario."""
+    `warning`. `within` are lines to show in place of the text's own, as those of a program inside a scenario."""
 
     level: str
     start: int

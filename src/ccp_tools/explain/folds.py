@@ -11,8 +11,8 @@ from ..tables import PRIMITIVES as NAMES
 from .findings import Finding, cut, did_you_mean
 
 SENTENCE = (
-    "An acknowledgement line is `name=number`, with spaces or tabs between: `now=10 bytes_acked=1500`. Each name is there"
-    " at most once; the others are 0."
+    "An acknowledgement line is `name=number`, with spaces or tabs between: `now=10 bytes_acked=1500`. Each name is"
+    " there at most once; the others are 0."
 )
 DASHES = ("--", "----", "\u2014", "\u2013-", "-\u2013", "\u2014-")
 ACK_LINE = re.compile(r"(?:[A-Za-z]+[.])?[a-z_]+=[0-9]+(?:[ \t]+\S+)*")
@@ -63,11 +63,15 @@ def no_separator(text: str, reason: str) -> Finding:
             return Finding("refused", at, at + len(line), reason, [hint])
         if line.rstrip("\r").endswith("---"):
             where_at = at + line.rindex("---")
-            return Finding("refused", where_at, where_at + 3, reason, ["`---` is on a line of its own: end the line before."])
+            return Finding(
+                "refused", where_at, where_at + 3, reason, ["`---` is on a line of its own: end the line before."]
+            )
         if ACK_LINE.fullmatch(bare):
             return Finding("refused", at, at + len(line), reason, ["Put a line `---` before the acknowledgements."])
         at += len(line) + 1
-    return Finding("refused", 0, 0, reason, ["A line `---` is needed between the two parts of the input; there is none."])
+    return Finding(
+        "refused", 0, 0, reason, ["A line `---` is needed between the two parts of the input; there is none."]
+    )
 
 
 def line_refusal(text: str, number: int, reason: str) -> Finding:

@@ -27,11 +27,12 @@ class NotJson(Exception):
 
 
 class Value:
-    """A value of a JSON text, from the character `start` to before `end`. Its kind is object, array, text, number, word.
+    """A value of a JSON text, from the character `start` to before `end`. Its kind is object, array, text, number,
+    word.
 
     `is_` has the members of an object as pairs (key, value) in their order, the items of an array, the characters of a
-    text, the digits of a number as written, or True, False or None. `starts` says of a text where each of its characters
-    begins, and where the last one ends."""
+    text, the digits of a number as written, or True, False or None. `starts` says of a text where each of its
+    characters begins, and where the last one ends."""
 
     def __init__(self, kind: str, is_: Any, start: int, end: int, starts: Sequence[int] = ()) -> None:
         self.kind = kind

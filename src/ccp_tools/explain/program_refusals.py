@@ -134,7 +134,11 @@ def hint_of_weight(word: str) -> str:
         return "The weight is in tenths: a numeral from 0 to 10, as 8 for 0.8."
     if tenths == round(tenths):
         return "The weight is that of the old value, in tenths: write `%d` for %s." % (tenths, word)
-    return "The weight is that of the old value, in whole tenths: write `%d` or `%d` for %s." % (tenths, tenths + 1, word)
+    return "The weight is that of the old value, in whole tenths: write `%d` or `%d` for %s." % (
+        tenths,
+        tenths + 1,
+        word,
+    )
 
 
 def hints_of_unexpected(program: Program, start: int, node: Optional[Node]) -> List[str]:
@@ -194,7 +198,9 @@ def hints_of_unknown(program: Program, _start: int, node: Optional[Node]) -> Lis
             return found + ["The primitive is `%s`." % name]
     if word.startswith("Report."):
         near = did_you_mean(word, ["Report." + name for name in program.fields])
-        return found + near + ["Fields are declared in `(Report ..)` of `def`, without the prefix: `(%s 0)`." % cut(last)]
+        return (
+            found + near + ["Fields are declared in `(Report ..)` of `def`, without the prefix: `(%s 0)`." % cut(last)]
+        )
     if word.startswith(PREFIXES):
         return found + did_you_mean(word, PRIMITIVE_WORDS)
     if word in program.locals_before(node)[1]:
@@ -376,8 +382,8 @@ def source_of(program: Program, node: Node) -> str:
 
 
 def mend_of(name: str, node: Optional[Node]) -> List[str]:
-    """What to do about a refusal, unless it doesn't help at this node: a name with a prefix never becomes a local, and a
-    fraction isn't mended by leaving out its point."""
+    """What to do about a refusal, unless it doesn't help at this node: a name with a prefix never becomes a local, and
+    a fraction isn't mended by leaving out its point."""
     if name == "Unknown" and node is not None and node.text.startswith(PREFIXES):
         return []
     if name == "BadNumeral" and node is not None and "." in node.text:

@@ -2,7 +2,7 @@
 from __future__ import annotations
 
 from dataclasses import dataclass, field
-from typing import Dict, Iterator, List, Optional, Sequence, Set, Tuple
+from typing import Dict, Iterator, List, Optional, Sequence, Set
 
 from ..reference.language import MEANINGS, MOST
 from ..reference.syntax import CONSTANTS, OPERATORS, RESERVED, WRITTEN, Node, Program
@@ -108,7 +108,12 @@ class Watch:
         if name in self.program.fields:
             return "A field is assigned with its prefix: `Report.%s`." % name
         low = name.lower()
-        others = [*LANGUAGE, *self.program.controls, *("Report." + one for one in self.program.fields), *PRIMITIVE_WORDS]
+        others = [
+            *LANGUAGE,
+            *self.program.controls,
+            *("Report." + one for one in self.program.fields),
+            *PRIMITIVE_WORDS,
+        ]
         for other in others:
             if other != name and low == other.lower():
                 return "Did you mean `%s`?" % other
@@ -171,7 +176,9 @@ class Watch:
             self.warn(node, "`+infinity` is 2^64-1: " + why)
             return
         text = "`%s` begins as `+infinity`: %s" % (shown, why)
-        self.warn(node, text, "Assign it before, as `(:= %s (min %s ..))`, or declare a smaller number." % (shown, shown))
+        self.warn(
+            node, text, "Assign it before, as `(:= %s (min %s ..))`, or declare a smaller number." % (shown, shown)
+        )
 
     # ---- the agent, the window, reports
 
@@ -193,11 +200,17 @@ class Watch:
                 "s" if len(answered) > 1 else "",
                 listed(answered),
             )
-            own = "Choose another name, as `lost` for `loss`, where the program is to move the window alone." if moves else ""
+            own = (
+                "Choose another name, as `lost` for `loss`, where the program is to move the window alone."
+                if moves
+                else ""
+            )
             self.warn(node, text, own, "A program for an agent has %s too." % listed(missing))
         if not moves and not answered:
             node = self.program.forms[0].parts[0] if self.program.forms and self.program.forms[0].parts else None
-            text = "the window never moves: no command that is reached assigns `Cwnd`, and no field makes an agent answer"
+            text = (
+                "the window never moves: no command that is reached assigns `Cwnd`, and no field makes an agent answer"
+            )
             self.warn(node, text)
 
     def _declaration(self, name: str) -> Optional[Node]:
@@ -211,7 +224,11 @@ class Watch:
     def _reports(self) -> None:
         if not any(command.head() == "report" for command in self._commands()):
             node = self.program.forms[0].parts[0] if self.program.forms and self.program.forms[0].parts else None
-            self.warn(node, "it never reports: no `(report)` is reached", "Without reports no agent answers, and there is no timeline.")
+            self.warn(
+                node,
+                "it never reports: no `(report)` is reached",
+                "Without reports no agent answers, and there is no timeline.",
+            )
 
 
 def infinite_names(program: Program) -> Set[str]:
@@ -257,5 +274,3 @@ def absorbed(word: str, left: Optional[int], right: Optional[int]) -> Optional[i
     if word == "and" and any(part == 0 for part in known):
         return 0
     return None
-
-

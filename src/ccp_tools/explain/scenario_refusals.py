@@ -218,7 +218,9 @@ def hints_of_value(scenario: Scenario, of: str, name: str, value: Value) -> List
         near = did_you_mean(value.is_, list(AGENTS)) if value.kind == "text" else []
         return ["Here is %s." % shown_value(value)] + near
     if name == "name":
-        return hints_of_name(value.is_) if value.kind == "text" else ["A name is a text; here is %s." % value.kind_name()]
+        return (
+            hints_of_name(value.is_) if value.kind == "text" else ["A name is a text; here is %s." % value.kind_name()]
+        )
     if name in ("programs", "traces", "shared"):
         return ["It is an object `{..}`; here is %s." % value.kind_name()]
     if name in ("cases", "losses"):
@@ -308,7 +310,8 @@ def program_refusal(scenario: Scenario, mode: str, reason: str, rest: str) -> Fi
 
 
 def place_within(found: Finding, value: Value, data: bytes) -> None:
-    """Moves a finding in the bytes of a text to the text's place in the scenario, and has it show the text's own line."""
+    """Moves a finding in the bytes of a text to the text's place in the scenario, and has it show the text's own
+    line."""
     first = len(data[: found.start].decode("utf-8", "ignore"))
     last = max(first + 1, len(data[: found.end].decode("utf-8", "ignore")))
     lines = Text("", value.is_)

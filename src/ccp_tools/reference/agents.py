@@ -1,17 +1,35 @@
 """Reno and CUBIC, as docs/agents.md has them, after RFC 5681 and RFC 9438.
 
-examples/agent.py has a Reno of its own, since it is an example of an agent outside `ccp` that one copies and changes."""
+examples/agent.py has a Reno of its own, since it is an example of an agent outside `ccp` that one copies and
+changes."""
 from __future__ import annotations
 
-from typing import Dict, Mapping, Optional, Tuple, Type, Union
+from dataclasses import dataclass
+from typing import Dict, Mapping, Optional, Type, Union
 
 from ..tables import LIMITS
 
 MOST = 2**64 - 1
 SEGMENTS = LIMITS["flight"]
 
-# None, ("update", window) or ("change", phase, window, cap), with the phase "ss" or "ca"
-Reply = Optional[Union[Tuple[str, int], Tuple[str, str, int, int]]]
+
+@dataclass(frozen=True)
+class Update:
+    """A reply that sets the window, in bytes."""
+
+    window: int
+
+
+@dataclass(frozen=True)
+class Change:
+    """A reply that starts the program of a phase, "ss" or "ca", with a window and a cap, in bytes."""
+
+    phase: str
+    window: int
+    cap: int
+
+
+Reply = Optional[Union[Update, Change]]
 
 
 def stop(number: int) -> int:
@@ -25,9 +43,9 @@ def first_segments(mss: int) -> int:
 
 
 class Agent:
-    """What the agents have in common. `phase` is "ss" (slow start) or "ca" (congestion avoidance), `epoch` the number of
-    the changes after the first one, `ssthresh` the threshold in bytes, and `calm` a time: a loss before it belongs to the
-    loss event that was answered last."""
+    """What the agents have in common. `phase` is "ss" (slow start) or "ca" (congestion avoidance), `epoch` the number
+    of the changes after the first one, `ssthresh` the threshold in bytes, and `calm` a time: a loss before it belongs
+    to the loss event that was answered last."""
 
     def __init__(self, mss: int) -> None:
         self.mss = mss
@@ -47,7 +65,7 @@ class Agent:
         """A change to the program of a phase."""
         self.phase = phase
         self.epoch += 1
-        return "change", phase, self.bytes(), self.ssthresh
+        return Change(phase, self.bytes(), self.ssthresh)
 
 
 class Reno(Agent):
@@ -84,7 +102,7 @@ class Reno(Agent):
         if not seen["acked"]:
             return None
         self.window = self._held(stop(self.window + max(1, stop(self.mss * seen["acked"] // self.window))))
-        return "update", self.window
+        return Update(self.window)
 
 
 def cube_root(number: int) -> int:
@@ -92,7 +110,7 @@ def cube_root(number: int) -> int:
     root, above = 0, 1 << number.bit_length() // 3 + 1
     while above - root > 1:
         middle = (root + above) // 2
-        root, above = (middle, above) if middle**3 <= number else (root, middle)
+        root, above = (middle, above) if middle ** 3 <= number else (root, middle)
     return root
 
 
@@ -152,7 +170,7 @@ class Cubic(Agent):
             target = min(max(self.curve(stop(time + ahead)), self.w), self.w + self.w // 2)
             self.w += min(target - self.w, (target - self.w) * part // self.w)
         self.w = min(max(self.w, 1000), most)
-        return "update", self.bytes()
+        return Update(self.bytes())
 
 
 # the agents, by the names that cases give them

@@ -5,7 +5,7 @@ from pathlib import Path
 from typing import Any, Callable, Dict, Iterator, List, Mapping, Optional, Sequence, Tuple, Union
 
 from ..tables import AGENTS, BUILT_INS
-from .agents import AGENT_NAMED, MOST, Reply
+from .agents import AGENT_NAMED, MOST, Change, Reply, Update
 from .language import Fault, Meaning, State
 from .link import Link, Trace
 
@@ -22,8 +22,8 @@ class Illegal(Exception):
 
 
 class Programs:
-    """The programs of a scenario by their numbers: the built-in ones, and then its own in byte order of their names. Each
-    is read when it is first used."""
+    """The programs of a scenario by their numbers: the built-in ones, and then its own in byte order of their names.
+    Each is read when it is first used."""
 
     def __init__(self, scenario: Members) -> None:
         given = scenario.get("programs", {})
@@ -84,8 +84,8 @@ def fields_text(fields: Sequence[Tuple[str, int]]) -> str:
 class Flow:
     """A flow as a word is made on it: its letters are `ack`, `take` and `settle`.
 
-    `number` is its number, `case` its case, `traces` the traces' texts by their names, `programs` those of the scenario.
-    `heard` is called with each acknowledgement. Letters that can't be made raise Illegal."""
+    `number` is its number, `case` its case, `traces` the traces' texts by their names, `programs` those of the
+    scenario. `heard` is called with each acknowledgement. Letters that can't be made raise Illegal."""
 
     def __init__(
         self,
@@ -109,15 +109,15 @@ class Flow:
         self.notice: Optional[Notice] = None
         self.out: Optional[Ticket] = None
         self.state = State({}, 0, 0, 0)
-        self._change("ss", self.agent.bytes(), MOST)
+        self._change(Change("ss", self.agent.bytes(), MOST))
 
-    def _change(self, phase: str, window: int, cap: int) -> None:
-        self.program = self.roles[phase]
+    def _change(self, change: Change) -> None:
+        self.program = self.roles[change.phase]
         self.stopped, self.notice, self.first = False, None, self.acks
-        values = {"cap": cap, "mss": self.case["mss"]}
-        self.state = self.programs[self.program].start(values, window, self.state.rate, self.last)
-        self.epochs.append((self.program, self.acks, window))
-        self.peak = max(self.peak, window)
+        values = {"cap": change.cap, "mss": self.case["mss"]}
+        self.state = self.programs[self.program].start(values, change.window, self.state.rate, self.last)
+        self.epochs.append((self.program, self.acks, change.window))
+        self.peak = max(self.peak, change.window)
 
     # ---- the letters
 
@@ -172,10 +172,10 @@ class Flow:
             raise Illegal("no ticket is out")
         ticket, self.out = self.out, None
         ticket.answered, ticket.reply = self.acks, self._reply(ticket.subject)
-        if ticket.reply is not None and len(ticket.reply) == 2:
-            self.state.cwnd = ticket.reply[1]
-        elif ticket.reply is not None:
-            self._change(*ticket.reply[1:])
+        if isinstance(ticket.reply, Update):
+            self.state.cwnd = ticket.reply.window
+        elif isinstance(ticket.reply, Change):
+            self._change(ticket.reply)
         self.peak = max(self.peak, self.state.cwnd)
 
     def _reply(self, subject: Union[Report, Notice]) -> Reply:
@@ -267,9 +267,9 @@ class Flow:
     def _reply_text(self, reply: Reply) -> str:
         if reply is None:
             return "none"
-        if len(reply) == 2:
-            return "update:%d" % reply[1]
-        return "change:%d:%d:%d" % (self.roles[reply[1]], reply[2], reply[3])
+        if isinstance(reply, Update):
+            return "update:%d" % reply.window
+        return "change:%d:%d:%d" % (self.roles[reply.phase], reply.window, reply.cap)
 
     def row(self) -> Dict[str, Union[int, str]]:
         """The flow's row of a table, by its columns."""

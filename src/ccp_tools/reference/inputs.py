@@ -1,7 +1,7 @@
 """Random inputs of `ccp` that it accepts: programs, acknowledgements, traces and scenarios.
 
-Each function takes a `random.Random`, so that equal seeds give equal inputs; that of `hypothesis` will do too. The traits
-that an input has are noted by their names in a set."""
+Each function takes a `random.Random`, so that equal seeds give equal inputs; that of `hypothesis` will do too. The
+traits that an input has are noted by their names in a set."""
 from __future__ import annotations
 
 from random import Random
@@ -341,5 +341,3 @@ def scenario(draw: Random, traits: Traits, wanted: Sequence[str] = (), most_acks
     cases = [case(draw, "c%d" % at, names, most_acks, traits) for at in range(draw.randrange(1, 4))]
     traces = {"t0": trace_text(draw), "t1": trace_text(draw)}
     return {"version": 1, "programs": programs, "traces": traces, "cases": cases}
-
-

@@ -29,7 +29,8 @@ class Trace:
 
 @dataclass
 class Packet:
-    """A packet in flight. `at` is its chance and `arrival` that of its acknowledgement; both are None where it is lost."""
+    """A packet in flight. `at` is its chance and `arrival` that of its acknowledgement; both are None where it is
+    lost."""
 
     number: int
     sent: int

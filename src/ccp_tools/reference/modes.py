@@ -67,7 +67,9 @@ def fold(text: str, given: Sequence[Mapping[str, int]]) -> str:
             lines.append("report program=0 epoch=0 span=%d..%d now=%d cwnd=%d rate=%d%s" % seen)
             first, reports = number + 1, reports + 1
     ended = (len(given), reports, first, len(given), "yes" if stopped else "no", state.cwnd, state.rate)
-    lines.append("end acks=%d reports=%d tail=%d..%d stopped=%s cwnd=%d rate=%d" % ended + fields_text(meaning.shown(state)))
+    lines.append(
+        "end acks=%d reports=%d tail=%d..%d stopped=%s cwnd=%d rate=%d" % ended + fields_text(meaning.shown(state))
+    )
     return "".join(line + "\n" for line in lines)
 
 

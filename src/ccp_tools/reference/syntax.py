@@ -1,7 +1,7 @@
 """Program texts as trees: their tokens and lists with places, and the names that they declare.
 
-Any text is read as far as it goes, so that a text that `ccp` refuses can be shown too. Places are characters of the text
-read as Latin-1, one character a byte, since the columns of `ccp` count bytes."""
+Any text is read as far as it goes, so that a text that `ccp` refuses can be shown too. Places are characters of the
+text read as Latin-1, one character a byte, since the columns of `ccp` count bytes."""
 from __future__ import annotations
 
 import re

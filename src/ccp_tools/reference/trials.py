@@ -1,5 +1,5 @@
-"""Inputs of each mode with what is expected of the program: what the reference model prints, where it has the mode, else
-what the input was made for."""
+"""Inputs of each mode with what is expected of the program: what the reference model prints, where it has the mode,
+else what the input was made for."""
 from __future__ import annotations
 
 import json
@@ -82,7 +82,8 @@ def source_bytes(text: str) -> bytes:
 
 
 def check(draw: Random) -> Trial:
-    """An accepted program: its summary, and a line of the listing for each field, control variable, block and instruction."""
+    """An accepted program: its summary, and a line of the listing for each field, control variable, block and
+    instruction."""
     traits: Traits = set()
     text = inputs.Programs(draw, traits, wanted(draw)).text()
     summary = modes.check_summary(text)
@@ -143,7 +144,21 @@ def changed(draw: Random, text: str) -> str:
     for _ in range(draw.randrange(1, 4)):
         at = draw.randrange(len(text))
         end = min(len(text), at + draw.choice([0, 1, 1, 5, 40]))
-        words = ["(", ")", " ", "x", "0", "18446744073709551616", "-", "Report.x", "(report)", "true", "+infinity", "ewma", ";"]
+        words = [
+            "(",
+            ")",
+            " ",
+            "x",
+            "0",
+            "18446744073709551616",
+            "-",
+            "Report.x",
+            "(report)",
+            "true",
+            "+infinity",
+            "ewma",
+            ";",
+        ]
         text = text[:at] + draw.choice(["", "", *words]) + text[end:]
         text = text or "("
     return text.replace("---", "--")
@@ -214,11 +229,18 @@ def audit(draw: Random) -> Trial:
     if chance(draw, 0.5):
         at = draw.randrange(len(lines))
         number = sum(line.startswith("end ") for line in lines[:at])
-        lines[at] = re.sub(r"([0-9]+)([^0-9]*)$", lambda found: str(int(found.group(1)) + 1) + found.group(2), lines[at])
+        lines[at] = with_another_number(lines[at])
         expected = "no flow %d\n" % number
     traits |= seen_in(scenario)
     text = "".join(line + "\n" for line in lines)
     return Trial("audit", json.dumps(scenario).encode() + b"\n---\n" + text.encode(), prints(expected), traits)
+
+
+def with_another_number(line: str) -> str:
+    """A line whose last number is larger by one."""
+    found = re.search(r"([0-9]+)([^0-9]*)$", line)
+    assert found
+    return line[: found.start()] + str(int(found.group(1)) + 1) + found.group(2)
 
 
 # ---- modes without a reference: lines and statuses
@@ -352,8 +374,8 @@ def frame(kind: int, version: int, flow: int, body: bytes, n1: int = 0) -> bytes
 
 @dataclass
 class Feed:
-    """A flow over `feed`: the answers that are expected of its acknowledgements. Of a Fault the number of the instruction
-    isn't known, and is left out."""
+    """A flow over `feed`: the answers that are expected of its acknowledgements. Of a Fault the number of the
+    instruction isn't known, and is left out."""
 
     number: int
     version: int
