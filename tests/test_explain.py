@@ -405,7 +405,8 @@ def test_separators(program: Path) -> None:
 
 
 def test_a_fault_of_fold(program: Path) -> None:
-    text = "(def (Report (left 2000)))\n# \u00fc\n(when true\n  (:= Report.left (- Report.left Ack.bytes_acked))\n  (report))\n---\n"
+    text = "(def (Report (left 2000)))\n# \u00fc\n(when true\n"
+    text += "  (:= Report.left (- Report.left Ack.bytes_acked))\n  (report))\n---\n"
     acks = "now=1 bytes_acked=1500\n\nnow=2 bytes_acked=1500\n"
     holds = [
         "row:4:20: fault: Underflow at acknowledgement 1, counted from 0",
