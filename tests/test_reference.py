@@ -27,6 +27,7 @@ OF_MODES: Dict[str, Callable[[Any], str]] = {
     "acks": reference.acks,
 }
 RUNS = settings(
+    # a run of the program each; what is drawn is the same in every run
     deadline=None,
     max_examples=60,
     derandomize=True,
