@@ -218,11 +218,14 @@ def main():
     words = argparse.ArgumentParser(description=__doc__, formatter_class=argparse.RawDescriptionHelpFormatter)
     built = next((path for path in BUILT if os.path.exists(path)), BUILT[0])
     words.add_argument("--ccp", default=os.environ.get("CCP_PROGRAM") or built, metavar="PATH")
-    words.add_argument("--program", dest="ccp", default=argparse.SUPPRESS, help=argparse.SUPPRESS)
+    words.add_argument("--program", help=argparse.SUPPRESS)
     words.add_argument("--flow", type=int, default=0)
     words.add_argument("--mss", type=int, default=1448)
     words.add_argument("acks", metavar="ACKS-FILE")
     asked = words.parse_args()
+    if asked.program:
+        print("examples/agent.py: --program is now --ccp", file=sys.stderr)
+        asked.ccp = asked.program
     try:
         with sys.stdin if asked.acks == "-" else open(asked.acks, encoding="utf-8") as file:
             acks = read_acks(file.read().splitlines(), asked.flow)

@@ -116,6 +116,7 @@ class Scenario:
 
 
 def encoded(text: str) -> bytes:
+    """The bytes of a text, as they were given."""
     return text.encode("utf-8", "surrogateescape")
 
 

@@ -83,6 +83,7 @@ class Reader:
         return self.text[self.at : self.at + 1]
 
     def whole_text(self) -> Value:
+        """The value of the whole text, with nothing after it."""
         if self.text.startswith("\ufeff"):
             raise NotJson(0, "a byte order mark is no JSON")
         if not self.next():
@@ -93,6 +94,7 @@ class Reader:
         return value
 
     def value(self, depth: int) -> Value:
+        """A value of any kind; `depth` is how many arrays and objects are open."""
         first = self.next()
         if not first:
             raise NotJson(self.at, "the text ends where a value is expected")
@@ -107,6 +109,7 @@ class Reader:
         return self.word()
 
     def object(self, depth: int) -> Value:
+        """An object, whose `{` is here."""
         start = self.at
         members: List[Tuple[Value, Value]] = []
         self.at += 1
@@ -125,6 +128,7 @@ class Reader:
                 return Value("object", members, start, self.at)
 
     def array(self, depth: int) -> Value:
+        """An array, whose `[` is here."""
         start = self.at
         items: List[Value] = []
         self.at += 1
@@ -149,6 +153,7 @@ class Reader:
         return found == closing
 
     def string(self) -> Value:
+        """A text, whose quote is here."""
         start = self.at
         made: List[str] = []
         starts: List[int] = []
@@ -173,6 +178,7 @@ class Reader:
             made.append(self.escape())
 
     def escape(self) -> str:
+        """The character of an escape, whose backslash is here."""
         start = self.at
         letter = self.text[start + 1 : start + 2]
         self.at += 2
@@ -194,6 +200,7 @@ class Reader:
         return chr(0x10000 + (unit - 0xD800) * 0x400 + second - 0xDC00)
 
     def unit(self, start: int) -> int:
+        """The four hexadecimal digits of a `\\u` that begins at `start`."""
         digits = self.text[self.at : self.at + 4]
         if not re.fullmatch("[0-9a-fA-F]{4}", digits):
             raise NotJson(start, "`\\u` has four hexadecimal digits after it")
@@ -201,6 +208,7 @@ class Reader:
         return int(digits, 16)
 
     def number(self) -> Value:
+        """A number."""
         start = self.at
         found = NUMBER.match(self.text, start)
         after = self.text[found.end() : found.end() + 1] if found else ""
@@ -212,6 +220,7 @@ class Reader:
         return Value("number", found.group(), start, self.at)
 
     def word(self) -> Value:
+        """`true`, `false` or `null`."""
         found = WORD.match(self.text, self.at)
         assert found
         if found.group() not in WORDS:

@@ -54,6 +54,7 @@ class Watch:
         self.found.append(Warning(text, line, column, start, end, [hint for hint in hints if hint]))
 
     def warnings(self) -> List[Warning]:
+        """All warnings, in the order of their places."""
         for body in self.program.blocks():
             self._locals(body)
         self._infinities()

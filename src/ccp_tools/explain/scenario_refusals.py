@@ -138,6 +138,7 @@ def hints_of_mark(mark: str, before: str) -> List[str]:
 
 
 def missing(scenario: Scenario, _mode: str, of: str, within: Value, name: str, _value: Value, _path: str) -> Finding:
+    """A needed member isn't there."""
     hints = [scenario.rules.allowed(of, name) or "`shared`: the link that all flows share."]
     known = scenario.rules.members(of)
     stray = [key for key in within.names() if key not in known and not NOTES.fullmatch(key)]
@@ -150,6 +151,7 @@ def missing(scenario: Scenario, _mode: str, of: str, within: Value, name: str, _
 
 
 def wrong(scenario: Scenario, _mode: str, of: str, _within: Value, name: str, value: Value, path: str) -> Finding:
+    """A value has the wrong type, or a name or a loss is wrong."""
     hints = [scenario.rules.allowed(of, name)] if of != "whole" or name in scenario.rules.members("whole") else []
     if path.startswith(("programs.", "traces.")):
         if not NAME.fullmatch(name):
@@ -246,10 +248,12 @@ def hints_of_reference(scenario: Scenario, name: str, value: Value) -> List[str]
 
 
 def shown_value(value: Value) -> str:
+    """A value as a sentence shows it."""
     return '"%s"' % cut(value.is_) if value.kind == "text" else value.kind_name()
 
 
 def out_of_range(scenario: Scenario, mode: str, of: str, _within: Value, name: str, value: Value, path: str) -> Finding:
+    """A number or a count is outside of its range."""
     if path == "cases":
         limit = MODES[mode].cases or LIMITS["flows"]
         first = value.is_[limit]

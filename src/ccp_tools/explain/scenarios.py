@@ -53,6 +53,7 @@ class Rules:
 
 @lru_cache(maxsize=1)
 def the_rules() -> Rules:
+    """The rules, read once."""
     return Rules()
 
 

@@ -51,9 +51,11 @@ class Report:
         self.now, self.cwnd, self.rate, self.fields = now, flow.state.cwnd, flow.state.rate, fields
 
     def line(self) -> str:
+        """The line of the report up to its span."""
         return "report program=%d epoch=%d span=%d..%d" % (self.program, self.epoch, *self.span)
 
     def shown(self) -> str:
+        """The rest of the line."""
         return " now=%d cwnd=%d rate=%d%s" % (self.now, self.cwnd, self.rate, fields_text(self.fields))
 
     def read(self, look: Sequence[str]) -> Dict[str, int]:
@@ -78,6 +80,7 @@ class Ticket:
 
 
 def fields_text(fields: Sequence[Tuple[str, int]]) -> str:
+    """Fields as the end of a line has them."""
     return "".join(" %s=%d" % field for field in fields)
 
 
@@ -151,6 +154,7 @@ class Flow:
             self.first = self.acks
 
     def can_take(self) -> bool:
+        """Whether a taking is possible: no ticket is out, and a report or a fault notice waits."""
         return self.out is None and bool(self.waiting or self.notice)
 
     def take(self) -> None:

@@ -39,6 +39,7 @@ BIG = [2**32, 2**32 + 1, 5 * 10**9, 2**63, 2**64 - 2, MOST]
 
 
 def chance(draw: Random, share: float) -> bool:
+    """Whether something of this share of all cases is so."""
     return draw.random() < share
 
 
@@ -222,6 +223,7 @@ class Layout:
         self.ends_in_comment = chance(draw, 0.15)
 
     def text(self, forms: Sequence[Tree]) -> str:
+        """The text of some forms."""
         made = "".join(self._spaced(tokens_of(form)) + "\n" for form in forms)
         if self.ends_in_comment:
             self.traits.add("a comment at the end")

@@ -75,6 +75,7 @@ def wanted(draw: Random, more: Sequence[str] = ()) -> List[str]:
 
 
 def source_bytes(text: str) -> bytes:
+    """The bytes of a program's text."""
     return text.encode("utf-8")
 
 
@@ -461,6 +462,7 @@ def feed(draw: Random) -> Trial:
 
 
 def ack_frame(flow: Feed, ack: Dict[str, int]) -> bytes:
+    """The Ack of an acknowledgement."""
     body = struct.pack("<%dQ" % len(PRIMITIVES), *[ack.get(name, 0) for name in PRIMITIVES])
     return frame(ACK, flow.version, flow.number, body)
 
