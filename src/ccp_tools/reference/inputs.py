@@ -34,6 +34,9 @@ TRAITS = [
 Tree = Union[str, List[Any]]
 Traits = Set[str]
 
+CONNECTIVES = ["&&", "||", "and", "or"]
+# the operators whose result is a Bool
+TRUTHS = [">", "<", "==", "gt", "lt", "eq", *CONNECTIVES]
 AGENT_FIELDS = ["acked", "loss", "timeout", "rtt", "inflight", "ecn"]
 BIG = [2**32, 2**32 + 1, 5 * 10**9, 2**63, 2**64 - 2, MOST]
 
@@ -135,8 +138,8 @@ class Programs:
         local = [name for name, is_bool in self.locals.items() if is_bool]
         if depth == 0 or chance(self.draw, 0.2):
             return self.draw.choice(["true", "false", "Flow.was_timeout", *self.bools, *local])
-        word = self.draw.choice([">", "<", "==", "gt", "lt", "eq", "&&", "||", "and", "or"])
-        if word in ("&&", "||", "and", "or"):
+        word = self.draw.choice(TRUTHS)
+        if word in CONNECTIVES:
             either = [self.truth, self.number]
             return [word, self.draw.choice(either)(depth - 1), self.draw.choice(either)(depth - 1)]
         return [word, self.number(depth - 1), self.number(depth - 1)]
@@ -183,10 +186,16 @@ class Programs:
         return [":=", "Cwnd", ["min", bound, self.number(2)]]
 
     def _local(self) -> Tree:
-        is_bool = chance(self.draw, 0.3)
-        value = self.truth(2) if is_bool else self.number(2)
-        self.locals["l%d" % len(self.locals)] = is_bool
-        return [":=", list(self.locals)[-1], value]
+        value = self.truth(2) if chance(self.draw, 0.3) else self.number(2)
+        name = "l%d" % len(self.locals)
+        self.locals[name] = self._is_bool(value)
+        return [":=", name, value]
+
+    def _is_bool(self, value: Tree) -> bool:
+        """The kind that a local takes from its value."""
+        if not isinstance(value, str):
+            return value[0] in TRUTHS
+        return value in ("true", "false", "Flow.was_timeout", *self.bools) or self.locals.get(value, False)
 
     def _assignment(self, depth: int) -> Tree:
         """An assignment to a name that has a meaning."""
