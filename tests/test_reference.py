@@ -87,6 +87,24 @@ def test_programs_on_the_link(program: Path, mode: str, draw: Random, trace: str
     assert programs.run(mode, made, program=program).output == OF_MODES[mode](made)
 
 
+SHARED = strategies.fixed_dictionaries(
+    {
+        "trace": strategies.just("t"),
+        "queue": strategies.integers(1, 80),
+        "quantum_us": strategies.integers(1, 200_000),
+        "rounds": strategies.integers(1, 150),
+    }
+)
+
+
+@seed(20260104)
+@RUNS
+@given(TRACES, strategies.lists(CASES, max_size=4), SHARED)
+def test_flows_over_one_bottleneck(program: Path, trace: str, cases: Any, shared: Any) -> None:
+    made = {**scenario(trace, cases), "shared": shared}
+    assert programs.run("shared", made, program=program).output == reference.shared(made)
+
+
 @seed(20260103)
 @RUNS
 @given(strategies.randoms(use_true_random=False))
@@ -112,6 +130,13 @@ def test_examples(program: Path, name: str) -> None:
     made["cases"] = cases + others
     for mode, of in OF_MODES.items():
         assert programs.run(mode, made, program=program).output == of(made)
+
+
+@pytest.mark.parametrize("name", ["shared", "delay-shared"])
+def test_examples_of_shared(program: Path, name: str) -> None:
+    made = json.loads((EXAMPLES / (name + ".json")).read_text(encoding="utf-8"))
+    made["shared"]["rounds"] = 600
+    assert programs.run("shared", made, program=program).output == reference.shared(made)
 
 
 @pytest.mark.parametrize("path", sorted(EXAMPLES.glob("*.ccp")), ids=lambda path: path.stem)

@@ -13,7 +13,7 @@ from . import link
 from .flow import Flow, Illegal, Programs, flows_of, forced
 from .judging import Refused, judged
 from .language import Fault, Meaning, State
-from .modes import acks, campaign, check_summary, fold, timeline
+from .modes import acks, campaign, check_summary, fold, shared, timeline
 
 __all__ = [
     "Fault",
@@ -31,5 +31,6 @@ __all__ = [
     "forced",
     "judged",
     "link",
+    "shared",
     "timeline",
 ]

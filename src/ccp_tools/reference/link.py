@@ -64,32 +64,25 @@ class Link:
         self.chance += 1
         if at > self.now:
             self.later.append(at)
-        return Packet(number, self.now, at, at + self.case["delay_us"], self._marks(waiting))
+        return Packet(number, self.now, at, at + self.case["delay_us"], self.marks(waiting))
 
-    def _marks(self, waiting: int) -> bool:
+    def marks(self, waiting: int) -> bool:
+        """Whether a packet that comes while so many wait is marked."""
         return "mark" in self.case and waiting >= self.case["mark"]
+
+    def allowance(self, window: int) -> int:
+        """How many packets a window in bytes allows in flight."""
+        return int(min(LIMITS["flight"], max(1, window // self.case["mss"])))
 
     def next(self, window: int) -> Dict[str, int]:
         """The next acknowledgement, or timeout, of a window in bytes."""
-        allowance = min(LIMITS["flight"], max(1, window // self.case["mss"]))
-        while len(self.flight) < allowance:
+        while len(self.flight) < self.allowance(window):
             self.flight.append(self._send())
-        ack = dict.fromkeys(PRIMITIVES, 0)
         arrived = next((packet for packet in self.flight if packet.arrival is not None), None)
-        if arrived is not None:
-            self._acknowledge(arrived, ack)
-        else:
-            self.now += self.case["timeout_us"]
-            ack.update(lost_pkts_sample=len(self.flight), was_timeout=1, rtt_sample_us=self.rtt)
-            self.flight.clear()
-        flight = len(self.flight)
-        ack.update(now=self.now, packets_in_flight=flight, bytes_in_flight=flight * self.case["mss"])
-        if self.now:
-            ack["rate_incoming"] = self.case["mss"] * self.acked * 1_000_000 // self.now
-            ack["rate_outgoing"] = self.case["mss"] * self.sent * 1_000_000 // self.now
-        return ack
+        return self.timed_out(self.now + self.case["timeout_us"]) if arrived is None else self.acknowledged(arrived)
 
-    def _acknowledge(self, packet: Packet, ack: Dict[str, int]) -> None:
+    def acknowledged(self, packet: Packet) -> Dict[str, int]:
+        """The acknowledgement of a packet in flight; it and all packets before it leave the flight."""
         assert packet.arrival is not None
         mss = self.case["mss"]
         lost = 0
@@ -97,8 +90,26 @@ class Link:
             lost += 1
         self.now, self.rtt = packet.arrival, packet.arrival - packet.sent
         self.acked += 1
-        ack.update(bytes_acked=mss, packets_acked=1, lost_pkts_sample=lost, rtt_sample_us=self.rtt)
+        ack = self._seen(bytes_acked=mss, packets_acked=1, lost_pkts_sample=lost)
         if lost:
             ack.update(bytes_misordered=mss, packets_misordered=1)
         if packet.marked:
             ack.update(ecn_bytes=mss, ecn_packets=1)
+        return ack
+
+    def timed_out(self, at: int) -> Dict[str, int]:
+        """The timeout at a time; all packets leave the flight as lost."""
+        lost = len(self.flight)
+        self.now = at
+        self.flight.clear()
+        return self._seen(lost_pkts_sample=lost, was_timeout=1)
+
+    def _seen(self, **values: int) -> Dict[str, int]:
+        """The primitives at the present time, with some values."""
+        mss, flight = self.case["mss"], len(self.flight)
+        ack = {**dict.fromkeys(PRIMITIVES, 0), **values}
+        ack.update(now=self.now, rtt_sample_us=self.rtt, packets_in_flight=flight, bytes_in_flight=flight * mss)
+        if self.now:
+            ack["rate_incoming"] = mss * self.acked * 1_000_000 // self.now
+            ack["rate_outgoing"] = mss * self.sent * 1_000_000 // self.now
+        return ack

@@ -6,6 +6,7 @@ from typing import Dict, List, Mapping, Sequence, Union
 from ..tables import COLUMNS, PRIMITIVES, SUMS
 from .flow import Acknowledgement, Members, fields_text, flows_of
 from .language import Fault, Meaning
+from .shared_link import Bottleneck
 
 Row = Dict[str, Union[int, str]]
 
@@ -42,6 +43,14 @@ def acks(scenario: Members) -> str:
         lines.append(flow.head())
         flow.run_campaign_word()
     return "".join(line + "\n" for line in lines)
+
+
+def shared(scenario: Members) -> str:
+    """The text of `shared`."""
+    flows = list(flows_of(scenario))
+    bottleneck = Bottleneck(scenario)
+    bottleneck.run(flows)
+    return table_text([flow.row() for flow in flows]) + bottleneck.line(flows) + "\n"
 
 
 def ack_line(ack: Acknowledgement) -> str:

@@ -244,6 +244,21 @@ def with_another_number(line: str) -> str:
     return line[: found.start()] + str(int(found.group(1)) + 1) + found.group(2)
 
 
+def shared(draw: Random) -> Trial:
+    """Flows over one bottleneck."""
+    traits: Traits = set()
+    scenario = inputs.scenario(draw, traits, wanted(draw), 60)
+    scenario["shared"] = {
+        "trace": draw.choice(["t0", "t1"]),
+        "queue": draw.choice([1, 10, 4096]),
+        "quantum_us": draw.choice([1, 1000, 50_000, 1_000_000]),
+        "rounds": draw.randrange(1, 200),
+    }
+    expected = modes.shared(scenario)
+    workers = draw.choice([1, 2, 8, 32])
+    return Trial("shared", json.dumps(scenario).encode(), prints(expected), traits, {"workers": workers})
+
+
 # ---- modes without a reference: lines and statuses
 
 
@@ -259,32 +274,6 @@ def readable(read: Callable[[str], Any], more: Callable[[Any], Optional[str]] = 
             return str(error)
 
     return judge
-
-
-def shared(draw: Random) -> Trial:
-    """Flows over one bottleneck: the same table for each number of workers, and packets that add up."""
-    traits: Traits = set()
-    scenario = inputs.scenario(draw, traits, wanted(draw), 60)
-    scenario["shared"] = {
-        "trace": draw.choice(["t0", "t1"]),
-        "queue": draw.choice([1, 10, 4096]),
-        "quantum_us": draw.choice([1, 1000, 50_000, 1_000_000]),
-        "rounds": draw.randrange(1, 200),
-    }
-    data = json.dumps(scenario).encode()
-
-    def adds_up(table: texts.Table) -> Optional[str]:
-        link = table.link or {}
-        packets = link["acked"] + link["lost"] + link["inflight"]
-        return None if link["sent"] == packets else "the link's packets don't add up: %s" % link
-
-    def judge(ran: Run, run: Runner) -> Optional[str]:
-        other = run("shared", data, workers=draw.choice([1, 3, 32]))
-        if other.output != ran.output:
-            return "another number of workers prints another text: " + first_difference(ran.output, other.output)
-        return readable(texts.read_table, adds_up)(ran, run)
-
-    return Trial("shared", data, judge, traits, {"workers": draw.choice([1, 2, 8])})
 
 
 def rollout(draw: Random) -> Trial:
