@@ -4,7 +4,7 @@ from __future__ import annotations
 from collections import deque
 from typing import Deque, List, Sequence
 
-from .flow import Flow, Members
+from .flow import Acknowledgement, Flow, Members
 from .link import Packet, Trace
 
 
@@ -79,9 +79,10 @@ def answer(flow: Flow, end: int) -> None:
         flow.settle_all()
 
 
-def acks_before(flow: Flow, end: int) -> List[dict[str, int]]:
+def acks_before(flow: Flow, end: int) -> List[Acknowledgement]:
     """The acknowledgements of a flow that come before a time; at most one of them, the last, is a timeout."""
-    link, made = flow.link, []
+    link = flow.link
+    made: List[Acknowledgement] = []
     left = flow.case["acks"] - flow.acks
     for packet in [packet for packet in link.flight if packet.arrival is not None and packet.arrival < end]:
         if len(made) < left:
