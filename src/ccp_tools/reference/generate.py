@@ -2,12 +2,12 @@
 
     python3 -m ccp_tools.reference.generate [--count N] [--seed S] [--ccp PATH] [--trials LIST] [--jobs N] [--only I]
 
-Input I of seed S is the same on every machine. Where the reference model has the mode (`fold`, `campaign`, `timeline`,
-`acks`, `shared`, and `live` over the counts that it prints), the output has to be the model's. `feed` has to answer the
-reports and faults that the model gives. `audit` has to say yes to the model's timeline, and to name the flow in which a
-line was changed. A mistake that was made has to be refused at its path. Elsewhere the lines have to be readable, and the
-same for each number of workers. The status has to be 0, or 3 where a refusal is expected: out of memory (6) is a
-failure.
+Input I of seed S is the same on every machine. Where the reference model has the mode (`fold`, `campaign`,
+`timeline`, `acks`, `shared`, and `live` over the counts that it prints), the output has to be the model's. `feed` has
+to answer the reports and faults that the model gives. `audit` has to say yes to the model's timeline, and to name the
+flow in which a line was changed. A mistake that was made has to be refused at its path. Elsewhere the lines have to
+be readable, and the same for each number of workers. The status has to be 0, or 3 where a refusal is expected: out of
+memory (6) is a failure.
 
 At the end a table has how many inputs each trial and each trait had. --only I runs input I alone and prints it;
 --trials takes some of the trials alone.
