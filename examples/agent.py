@@ -1,37 +1,38 @@
 #!/usr/bin/env python3
 """An agent of your own in Python, over `ccp feed`.
 
-    examples/agent.py [--program PATH-OF-CCP] [--flow N] [--mss BYTES] ACKS-FILE
+    examples/agent.py [--ccp PATH] [--flow N] [--mss BYTES] ACKS-FILE
 
-It plays a recorded list of acknowledgements to the datapath, which runs the built-in programs `reno.ss` and `reno.ca` on
-them. The agent, the class Reno below, reads each report and answers with a new window or another program. A line is
+It plays a recorded list of acknowledgements to the datapath, which runs the built-in programs `reno.ss` and `reno.ca`
+on them. The agent, the class Reno below, reads each report and answers with a new window or another program. A line is
 printed for each report and its answer, and one for the end.
 
-ACKS-FILE has a line for each acknowledgement, as `ccp acks` prints them and `ccp fold` takes them; of the flows of a file
-with `flow` lines, number N is played (0). `-` is standard input:
+ACKS-FILE has a line for each acknowledgement, as `ccp acks` prints them and `ccp fold` takes them; of the flows of a
+file with `flow` lines, number N is played (0). `-` is standard input:
 
-    ./ccp acks < examples/live.json | examples/agent.py -
+    ./ccp acks examples/live.json | examples/agent.py -
 
-The recording is fixed: it shows what an agent decides, not what the link would have done with another window. Put your own
-agent in the place of Reno: it needs `begin`, `report` and `fault`, and what these give is an answer of the class Datapath.
-docs/frames.md has the bytes of the frames.
+The recording is fixed: it shows what an agent decides, not what the link would have done with another window. Put your
+own agent in the place of Reno: it needs `begin`, `report` and `fault`, and what these give is an answer of the class
+Datapath. docs/frames.md has the bytes of the frames. The script needs nothing beside it, so a copy works anywhere; its
+Reno is there to be changed, and the model that tests compare with `ccp` is in ccp_tools.reference.
 
-The program is the one of --program, else of $CCP_PROGRAM, else the one built here: crates/ccp/out/ccp, or
-crates/ccp/out/checked/ccp, which isn't proved.
-Exit status: 0, 1 where a file or the program is wrong, 2 where the words are."""
+The program is the one of --ccp, else of $CCP_PROGRAM, else the one that is built in the checkout of this script:
+crates/ccp/out/ccp, or crates/ccp/out/checked/ccp, which isn't proved.
+Exit status: 0; 1 where a file or the program is wrong; 2 where the arguments are."""
 import argparse
 import os
 import struct
 import subprocess
 import sys
 
-TOP = os.path.dirname(os.path.dirname(os.path.abspath(__file__)))
-sys.path.insert(0, os.path.join(TOP, "tools"))
-sys.dont_write_bytecode = True
-from ccp import PRIMITIVES
-
-OUT = os.path.join(TOP, "crates", "ccp", "out")
-BUILT = next((path for path in (os.path.join(OUT, "ccp"), os.path.join(OUT, "checked", "ccp")) if os.path.exists(path)), os.path.join(OUT, "ccp"))
+OUT = os.path.join(os.path.dirname(os.path.dirname(os.path.abspath(__file__))), "crates", "ccp", "out")
+BUILT = [os.path.join(OUT, "ccp"), os.path.join(OUT, "checked", "ccp")]
+# the values of an acknowledgement, in their order
+PRIMITIVES = (
+    "bytes_acked packets_acked bytes_misordered packets_misordered ecn_bytes ecn_packets lost_pkts_sample now"
+    " bytes_in_flight packets_in_flight bytes_pending rate_incoming rate_outgoing rtt_sample_us was_timeout"
+).split()
 # The built-in programs that are used, the fields of their reports, and what an answer can set: class and index.
 SLOW_START, AVOIDANCE = 0, 1
 FIELDS = "acked sacked loss timeout rtt inflight ecn".split()
@@ -52,7 +53,8 @@ class Datapath:
         self.ask(*installs(program), frame(CREATE, struct.pack("<QI", window, mss)))
 
     def ask(self, *frames):
-        """The answers to these frames, each as (kind, body). A Create of flow 64 is always refused: it marks their end."""
+        """The answers to these frames, each as (kind, body). A Create of flow 64 is always refused: it marks their
+        end."""
         self.feed.stdin.write(b"".join(frames) + frame(CREATE, bytes(12), flow=64))
         self.feed.stdin.flush()
         answers = []
@@ -97,7 +99,8 @@ def value(place, number):
 
 
 def installs(program):
-    """The Install frames of the built-in programs, as `campaign --wire` prints them. Programs of a scenario come with them."""
+    """The Install frames of the built-in programs, as `campaign --wire` prints them; a scenario's own come with
+    them."""
     given = b'{"version": 1, "traces": {}, "cases": []}'
     ran = subprocess.run([program, "campaign", "--wire"], input=given, stdout=subprocess.PIPE)
     lines = [line.split() for line in ran.stdout.decode().splitlines()]
@@ -204,7 +207,8 @@ def read_acks(lines, flow):
             except ValueError:
                 raise Wrong("line %d is no acknowledgement: name=number .. is accepted" % number)
             if given:
-                raise Wrong("line %d: there is no %s: the names are %s" % (number, ", ".join(given), ", ".join(PRIMITIVES)))
+                names = ", ".join(given), ", ".join(PRIMITIVES)
+                raise Wrong("line %d: there is no %s: the names are %s" % (number, *names))
     if played is None:
         raise Wrong("there are no acknowledgements of flow %d" % flow)
     return acks
@@ -212,16 +216,21 @@ def read_acks(lines, flow):
 
 def main():
     words = argparse.ArgumentParser(description=__doc__, formatter_class=argparse.RawDescriptionHelpFormatter)
-    words.add_argument("--program", default=os.environ.get("CCP_PROGRAM") or BUILT)
+    built = next((path for path in BUILT if os.path.exists(path)), BUILT[0])
+    words.add_argument("--ccp", default=os.environ.get("CCP_PROGRAM") or built, metavar="PATH")
+    words.add_argument("--program", help=argparse.SUPPRESS)
     words.add_argument("--flow", type=int, default=0)
     words.add_argument("--mss", type=int, default=1448)
     words.add_argument("acks", metavar="ACKS-FILE")
     asked = words.parse_args()
+    if asked.program:
+        print("examples/agent.py: --program is now --ccp", file=sys.stderr)
+        asked.ccp = asked.program
     try:
         with sys.stdin if asked.acks == "-" else open(asked.acks, encoding="utf-8") as file:
             acks = read_acks(file.read().splitlines(), asked.flow)
         agent = Reno(asked.mss)
-        datapath = Datapath(asked.program, agent.window, asked.mss)
+        datapath = Datapath(asked.ccp, agent.window, asked.mss)
         play(datapath, agent, acks, asked.mss)
         datapath.close()
     except Wrong as wrong:

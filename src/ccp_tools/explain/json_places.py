@@ -1,78 +1,89 @@
-"""Reads a JSON text as ccp's reader does, and keeps the place of each value.
+"""Reads a JSON text as the reader of `ccp` does, and keeps the place of each value.
 
 It refuses what that reader refuses: more than 127 open arrays and objects, a number past the range of a 64-bit float,
 half of a surrogate pair, a byte order mark. A byte that isn't UTF-8 is given as Python's surrogateescape has it."""
+from __future__ import annotations
+
 import re
+from typing import Any, List, Optional, Sequence, Tuple
 
 DEPTH = 127
 NUMBER = re.compile(r"-?(0|[1-9][0-9]*)(\.[0-9]+)?([eE][+-]?[0-9]+)?")
 BLANKS = re.compile(r"[ \t\r\n]*")
 PLAIN = re.compile(r'[^"\\\x00-\x1f\udc80-\udcff]+')
+WORD = re.compile(r"\w*")
 ESCAPES = {'"': '"', "\\": "\\", "/": "/", "b": "\b", "f": "\f", "n": "\n", "r": "\r", "t": "\t"}
 WORDS = {"true": True, "false": False, "null": None}
+KINDS = {"object": "an object", "array": "a list", "text": "a text", "number": "a number"}
 
 
 class NotJson(Exception):
     """Where a text stops being JSON, and why."""
 
-    def __init__(self, start, why):
+    def __init__(self, start: int, why: str) -> None:
         super().__init__(why)
         self.start = start
         self.why = why
 
 
 class Value:
-    """A value of a JSON text, from `start` to before `end`. Its kind is object, array, text, number, word.
+    """A value of a JSON text, from the character `start` to before `end`. Its kind is object, array, text, number,
+    word.
 
     `is_` has the members of an object as pairs (key, value) in their order, the items of an array, the characters of a
-    text, the digits of a number as written, or True, False or None."""
+    text, the digits of a number as written, or True, False or None. `starts` says of a text where each of its
+    characters begins, and where the last one ends."""
 
-    def __init__(self, kind, is_, start, end, starts=()):
+    def __init__(self, kind: str, is_: Any, start: int, end: int, starts: Sequence[int] = ()) -> None:
         self.kind = kind
         self.is_ = is_
         self.start = start
         self.end = end
-        # of a text, where each of its characters begins, and where the last one ends
         self.starts = starts
 
-    def members(self, name):
+    def members(self, name: str) -> List[Tuple[Value, Value]]:
         """The keys and values of this name, in their order: the last one counts."""
         return [pair for pair in self.is_ if pair[0].is_ == name] if self.kind == "object" else []
 
-    def member(self, name):
+    def member(self, name: str) -> Optional[Value]:
+        """The value of a member, or None."""
         found = self.members(name)
         return found[-1][1] if found else None
 
-    def names(self):
+    def names(self) -> List[str]:
         """The names of an object's members in the order of their first places."""
         return list(dict.fromkeys(key.is_ for key, _ in self.is_))
 
-    def whole(self):
-        """The whole number that this value is to ccp, else None."""
+    def whole(self) -> Optional[int]:
+        """The whole number that this value is to `ccp`, else None."""
         if self.kind != "number" or not re.fullmatch(r"0|-?[1-9][0-9]*", self.is_):
             return None
         number = int(self.is_) if len(self.is_) <= 20 else 2**64
         return number if -(2**63) <= number < 2**64 else None
 
-    def kind_name(self):
+    def kind_name(self) -> str:
+        """The kind as a sentence names it."""
         if self.kind == "word":
-            return {True: "true", False: "false", None: "null"}[self.is_]
-        return {"object": "an object", "array": "a list", "text": "a text", "number": "a number"}[self.kind]
+            return "null" if self.is_ is None else "true" if self.is_ else "false"
+        return KINDS[self.kind]
 
 
 class Reader:
     """A walk over a JSON text."""
 
-    def __init__(self, text):
+    def __init__(self, text: str) -> None:
         self.text = text
         self.at = 0
 
-    def next(self):
+    def next(self) -> str:
         """The next character that is no blank, or the empty text at the end."""
-        self.at = BLANKS.match(self.text, self.at).end()
+        found = BLANKS.match(self.text, self.at)
+        assert found
+        self.at = found.end()
         return self.text[self.at : self.at + 1]
 
-    def whole_text(self):
+    def whole_text(self) -> Value:
+        """The value of the whole text, with nothing after it."""
         if self.text.startswith("\ufeff"):
             raise NotJson(0, "a byte order mark is no JSON")
         if not self.next():
@@ -82,7 +93,8 @@ class Reader:
             raise NotJson(self.at, "the value ends before this")
         return value
 
-    def value(self, depth):
+    def value(self, depth: int) -> Value:
+        """A value of any kind; `depth` is how many arrays and objects are open."""
         first = self.next()
         if not first:
             raise NotJson(self.at, "the text ends where a value is expected")
@@ -96,8 +108,10 @@ class Reader:
             return self.number()
         return self.word()
 
-    def object(self, depth):
-        start, members = self.at, []
+    def object(self, depth: int) -> Value:
+        """An object, whose `{` is here."""
+        start = self.at
+        members: List[Tuple[Value, Value]] = []
         self.at += 1
         if self.next() == "}":
             self.at += 1
@@ -113,8 +127,10 @@ class Reader:
             if self.ends("}"):
                 return Value("object", members, start, self.at)
 
-    def array(self, depth):
-        start, items = self.at, []
+    def array(self, depth: int) -> Value:
+        """An array, whose `[` is here."""
+        start = self.at
+        items: List[Value] = []
         self.at += 1
         if self.next() == "]":
             self.at += 1
@@ -124,18 +140,23 @@ class Reader:
             if self.ends("]"):
                 return Value("array", items, start, self.at)
 
-    def ends(self, closing):
+    def ends(self, closing: str) -> bool:
         """Whether the list or object ends here; else a comma is taken."""
         found = self.next()
+        if not found:
+            raise NotJson(self.at, "the text ends before a `%s`" % closing)
         if found not in (",", closing):
-            raise NotJson(self.at, "a `,` or `%s` is expected here" % closing if found else "the text ends before a `%s`" % closing)
+            raise NotJson(self.at, "a `,` or `%s` is expected here" % closing)
         self.at += 1
         if found == "," and self.next() == closing:
             raise NotJson(self.at, "nothing follows the comma before this `%s`" % closing)
         return found == closing
 
-    def string(self):
-        start, made, starts = self.at, [], []
+    def string(self) -> Value:
+        """A text, whose quote is here."""
+        start = self.at
+        made: List[str] = []
+        starts: List[int] = []
         self.at += 1
         while True:
             plain = PLAIN.match(self.text, self.at)
@@ -156,7 +177,8 @@ class Reader:
             starts.append(self.at)
             made.append(self.escape())
 
-    def escape(self):
+    def escape(self) -> str:
+        """The character of an escape, whose backslash is here."""
         start = self.at
         letter = self.text[start + 1 : start + 2]
         self.at += 2
@@ -177,14 +199,16 @@ class Reader:
             raise NotJson(start, "this is half of a surrogate pair")
         return chr(0x10000 + (unit - 0xD800) * 0x400 + second - 0xDC00)
 
-    def unit(self, start):
+    def unit(self, start: int) -> int:
+        """The four hexadecimal digits of a `\\u` that begins at `start`."""
         digits = self.text[self.at : self.at + 4]
         if not re.fullmatch("[0-9a-fA-F]{4}", digits):
             raise NotJson(start, "`\\u` has four hexadecimal digits after it")
         self.at += 4
         return int(digits, 16)
 
-    def number(self):
+    def number(self) -> Value:
+        """A number."""
         start = self.at
         found = NUMBER.match(self.text, start)
         after = self.text[found.end() : found.end() + 1] if found else ""
@@ -195,14 +219,16 @@ class Reader:
         self.at = found.end()
         return Value("number", found.group(), start, self.at)
 
-    def word(self):
-        found = re.compile(r"\w*").match(self.text, self.at)
+    def word(self) -> Value:
+        """`true`, `false` or `null`."""
+        found = WORD.match(self.text, self.at)
+        assert found
         if found.group() not in WORDS:
             raise NotJson(self.at, "this is no value of JSON")
         start, self.at = self.at, found.end()
         return Value("word", WORDS[found.group()], start, self.at)
 
 
-def read(text):
+def read(text: str) -> Value:
     """The value of a JSON text. It raises NotJson."""
     return Reader(text).whole_text()

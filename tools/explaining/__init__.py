@@ -1,1 +1,0 @@
-"""What tools/explain and tools/audit stand on: JSON and program texts with places, and sentences for each refusal."""
