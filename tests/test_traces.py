@@ -8,7 +8,8 @@ from pathlib import Path
 from typing import Any, Dict, List
 
 import pytest
-from support import REPOSITORY, TRACES, Ran, ccp, command
+from inside import run_inside
+from support import REPOSITORY, TRACES, Ran, ccp
 
 from ccp_tools.errors import CcpError
 from ccp_tools.traces import Trace, read_trace, trace_text, trace_times
@@ -17,7 +18,7 @@ MAKERS = [("lte",), ("wifi",), ("satellite",), ("steps", "--rates", "12,3,24", "
 
 
 def trace(*words: object, given: str | bytes | None = None) -> Ran:
-    return command("trace", *words, given=given)
+    return run_inside("trace", *words, given=given)
 
 
 def made(*words: object, given: str | bytes | None = None) -> str:

@@ -12,7 +12,7 @@ import shutil
 import subprocess
 from dataclasses import dataclass
 from datetime import datetime, timezone
-from typing import Any, Dict, Iterable, Iterator, List, Sequence, Tuple
+from typing import Any, Iterable, Iterator, List, Sequence, Tuple
 
 from .arguments import warn
 from .errors import CcpError
@@ -174,13 +174,15 @@ def cell_in(cells: Sequence[str], at: int, place: str) -> str:
     """The text of a cell."""
     if at < len(cells):
         return cells[at].strip()
+    raise CcpError("%s: there is no column %d%s: %s" % (place, at + 1, other_separator(cells), ",".join(cells)[:60]))
+
+
+def other_separator(cells: Sequence[str]) -> str:
+    """Advice on --separator, where a row that is one cell has another sign between its values."""
     for sign, name in ((";", "';'"), ("\t", "tab"), (" ", "space"), (",", "','")):
         if len(cells) == 1 and sign in cells[0].strip():
-            raise CcpError(
-                "%s: there is no column %d; --separator %s may split the line: %s"
-                % (place, at + 1, name, cells[0][:60])
-            )
-    raise CcpError("%s: there is no column %d: %s" % (place, at + 1, ",".join(cells)[:60]))
+            return "; --separator %s may split the line" % name
+    return ""
 
 
 def number_in(cells: Sequence[str], at: int, place: str) -> float:
@@ -189,7 +191,8 @@ def number_in(cells: Sequence[str], at: int, place: str) -> float:
     try:
         found = float(text)
     except ValueError:
-        raise CcpError("%s: no number in column %d: %s" % (place, at + 1, text[:40] or "it is empty")) from None
+        what = text[:40] or "it is empty"
+        raise CcpError("%s: no number in column %d%s: %s" % (place, at + 1, other_separator(cells), what)) from None
     if not 0 <= found < 1e15:
         raise CcpError("%s: column %d: %s is no count, rate or time" % (place, at + 1, text[:40]))
     return found
@@ -307,11 +310,13 @@ def streamed_intervals(text: str, place: str) -> List[Any]:
     found = []
     for number, line in enumerate(text.split("\n"), 1):
         try:
-            event: Dict[str, Any] = json.loads(line) if line.strip() else {}
+            event = json.loads(line) if line.strip() else {}
         except (ValueError, RecursionError):
+            event = None
+        if not isinstance(event, dict):
             what = recognised(text) or "another text"
-            raise CcpError("%s:%d: JSON of iperf3 is expected, and it is %s" % (place, number, what)) from None
-        if isinstance(event, dict) and event.get("event") == "interval":
+            raise CcpError("%s:%d: JSON of iperf3 is expected, and it is %s" % (place, number, what))
+        if event.get("event") == "interval":
             found.append(event.get("data"))
     return found
 
