@@ -176,9 +176,12 @@ def work(arguments: argparse.Namespace, folder: Folder, job: Job) -> None:
     """Runs the parts that aren't done, and prints the whole."""
     runner = runner_of(arguments, folder, job)
     if not folder.is_done():
-        runner.try_machines()
-        with Progress(folder, arguments.quiet):
-            runner.run()
+        try:
+            runner.try_machines()
+            with Progress(folder, arguments.quiet):
+                runner.run()
+        finally:
+            runner.close()
     refusal = folder.refusal()
     if refusal:
         raise CcpError(in_whole(*refusal), 3)

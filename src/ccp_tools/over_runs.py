@@ -12,6 +12,7 @@ import shlex
 import shutil
 import subprocess
 import sys
+import tempfile
 import threading
 import time
 import zipfile
@@ -232,6 +233,9 @@ class Runner:
         """Runs the parts that aren't done."""
         raise NotImplementedError
 
+    def close(self) -> None:
+        """Ends what is left of the runs."""
+
     def part_words(self) -> List[str]:
         """The words of part.sh before the part."""
         return [str(self.job.program), self.job.sha256, self.job.words, self.job.python]
@@ -244,6 +248,8 @@ class Parallel(Runner):
         super().__init__(folder, job, tries)
         self.logins = list(logins)
         self.ssh = ssh
+        # a folder of a short name, since the path of a socket has at most 104 bytes
+        self.sockets: Path | None = None
         self.jobs = jobs
 
     # -- trying machines
@@ -301,13 +307,26 @@ class Parallel(Runner):
         return subprocess.Popen(words, stdin=subprocess.DEVNULL, stdout=pipe, stderr=pipe, text=True, errors="replace")
 
     def ssh_command(self) -> str:
-        """The command for ssh. A machine that goes away is noticed after half a minute, and none asks for a
-        password."""
+        """The command for ssh. A machine that goes away is noticed after half a minute, none asks for a password, and
+        the first connection to a machine serves all that follow."""
         words = shlex.split(self.ssh)
-        if os.path.basename(words[0]) == "ssh":
+        if words and os.path.basename(words[0]) == "ssh":
+            if self.sockets is None:
+                self.sockets = Path(tempfile.mkdtemp(prefix="ccp-ssh-"))
+            words += ["-o", "ControlMaster=auto", "-o", "ControlPath=%s/%%C" % self.sockets, "-o", "ControlPersist=60"]
             words += ["-o", "BatchMode=yes", "-o", "ConnectTimeout=20"]
             words += ["-o", "ServerAliveInterval=10", "-o", "ServerAliveCountMax=3"]
         return " ".join(shlex.quote(word) for word in words)
+
+    def close(self) -> None:
+        """Ends the connections to the machines."""
+        if self.sockets is None:
+            return
+        for path in self.sockets.iterdir():
+            words = [*shlex.split(self.ssh), "-o", "ControlPath=%s" % path, "-O", "exit", "any"]
+            subprocess.run(words, stdin=subprocess.DEVNULL, stdout=subprocess.DEVNULL, stderr=subprocess.DEVNULL)
+        shutil.rmtree(self.sockets, ignore_errors=True)
+        self.sockets = None
 
     # -- running
 
