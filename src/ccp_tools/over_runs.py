@@ -145,7 +145,8 @@ class Folder:
         for at in range(self.count):
             if self.has_answer(at) and self.known[at] == REFUSED:
                 result = self.result(at)
-                return (result.errors.strip() if result else "").replace("ccp: ", "", 1), self.spans[at][0]
+                line = result.errors.rstrip("\n") if result else ""
+                return line.replace("ccp: ", "", 1), self.spans[at][0]
         return None
 
     def error_of(self, at: int) -> str:
