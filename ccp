@@ -1,37 +1,47 @@
 #!/usr/bin/env bash
-# Runs ccp: `./ccp [OPTION].. MODE [FILE]..`, see `./ccp --help`.
+# Runs ccp: `./ccp [OPTION].. MODE [FILE]..` runs a mode of the program, `./ccp COMMAND ..` a sub-command of the Python
+# package; see `./ccp --help`. Installed, it runs the program of PREFIX/libexec/ccp.
 #
-# Words are checked here first, in milliseconds. Then the proved program answers, where it is built and no older than its
-# sources. Else the unproved program answers, which the toolchain compiles with checks in about two minutes and which is
-# kept. `./ccp --prove` proves and builds the program (tools/prove), and CCP_PROGRAM=PATH names one built elsewhere.
+# Words are checked here first, in milliseconds. In a checkout the proved program answers, where it is built and no older
+# than its sources. Else the unproved program answers, which the toolchain compiles with checks in about two minutes and
+# which is kept. `./ccp --prove` proves and builds the program (tools/prove), and CCP_PROGRAM=PATH names another one.
 set -u
-here=$(cd "$(dirname "$(readlink -f "${BASH_SOURCE[0]}")")" && pwd)
+here=${BASH_SOURCE[0]}
+if [ -L "$here" ]; then here=$(readlink -f "$here"); fi
+case $here in */*) here=${here%/*} ;; *) here=. ;; esac
+case $here in
+    *..*) here=$(cd "$here" && pwd) ;;
+    .) here=$PWD ;;
+    ./*) here=$PWD/${here#./} ;;
+    /*) ;;
+    *) here=$PWD/$here ;;
+esac
+launcher=$here/tools/launcher
+if [ ! -d "$launcher" ]; then launcher=${here%/*}/libexec/ccp/launcher; fi
+# shellcheck source=tools/launcher/tables.sh
+. "$launcher/tables.sh"
 # shellcheck source=tools/launcher/words.sh
-. "$here/tools/launcher/words.sh"
-. "$here/tools/launcher/pages.sh"
-. "$here/tools/launcher/run.sh"
-. "$here/tools/launcher/checked.sh"
+. "$launcher/words.sh"
+# shellcheck source=tools/launcher/run.sh
+. "$launcher/run.sh"
 
 main() {
-    if [ "${1-}" = --prove ]; then exec "$here/tools/prove" "${@:2}"; fi
-    if [ $# -eq 0 ] && [ -t 0 ]; then page_of_help; exit 0; fi
-    read_page "$@" || refuse_words
-    case $page in
-        help) page_of_help; exit 0 ;;
-        version) page_of_version; exit 0 ;;
-        mode) page_of_mode "$(first_mode "$@")"; exit 0 ;;
-    esac
-    read_words "$@" || refuse_words
-    if [ -n "${CCP_PROGRAM:-}" ]; then
-        if [ ! -f "$CCP_PROGRAM" ] || [ ! -x "$CCP_PROGRAM" ]; then
-            fail "CCP_PROGRAM names $CCP_PROGRAM, which is no program"
-        fi
-        run_program "$CCP_PROGRAM"
-    elif is_current "$proved"; then
-        run_program "$proved"
-    else
-        run_checked
+    if [ "${1-}" = --prove ]; then prove "${@:2}"; fi
+    if is_one_of "${1-}" "${commands[@]}"; then
+        # shellcheck source=tools/launcher/commands.sh
+        . "$launcher/commands.sh"
+        run_command "$@"
     fi
+    if [ $# -eq 0 ] && [ -t 0 ]; then set -- --help; fi
+    read_page "$@" || refuse_words
+    if [ -n "$page" ]; then
+        # shellcheck source=tools/launcher/pages.sh
+        . "$launcher/pages.sh"
+        show_page "$@"
+    fi
+    read_words "$@" || refuse_words
+    choose_program
+    run_mode
 }
 
 main "$@"

@@ -30,6 +30,12 @@ def program() -> Path:
 
 
 @pytest.fixture(scope="session")
+def program_path(program: Path) -> Path:
+    """The same, for tests that use a module of that name."""
+    return program
+
+
+@pytest.fixture(scope="session")
 def repository() -> Path:
     """The top of the repository."""
     return support.REPOSITORY

@@ -5,9 +5,8 @@ import os
 import stat
 import subprocess
 import sys
-from dataclasses import dataclass
 from pathlib import Path
-from typing import Any, Dict, Iterable, Sequence
+from typing import Any, Dict, Iterable, NamedTuple, Sequence
 
 import pytest
 
@@ -24,8 +23,7 @@ def needs(*names: str) -> pytest.MarkDecorator:
     return pytest.mark.needs(*names)
 
 
-@dataclass
-class Ran:
+class Ran(NamedTuple):
     """What a command printed on standard output and on standard error, and its exit status."""
 
     output: str
@@ -51,6 +49,11 @@ def command(name: str, *words: object, given: str | bytes | None = None, **more:
 def ccp(*words: object, given: str | bytes | None = None) -> Ran:
     """Runs the program itself."""
     return ran([find_program(), *words], given)
+
+
+def has_mode(name: str) -> bool:
+    """Whether the program has a mode; another one refuses the word."""
+    return ccp(name).status != 2
 
 
 def table_text(rows: Iterable[Dict[str, Any]]) -> str:

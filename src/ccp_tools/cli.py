@@ -17,16 +17,7 @@ from typing import List, Sequence
 
 from .arguments import Parser
 from .errors import CcpError, UsageError
-from .tables import COMMANDS
-
-# the Debian packages of modules that commands use beside Python's own
-PACKAGES = {
-    "pandas": "python3-pandas",
-    "numpy": "python3-numpy",
-    "matplotlib": "python3-matplotlib",
-    "scipy": "python3-scipy",
-    "jinja2": "python3-jinja2",
-}
+from .tables import COMMANDS, PACKAGES
 
 
 def main(arguments: Sequence[str]) -> int:
@@ -45,7 +36,7 @@ def main(arguments: Sequence[str]) -> int:
     except KeyboardInterrupt:
         return 130
     except ModuleNotFoundError as error:
-        complain(name, missing_module((error.name or "").split(".")[0]))
+        complain(name, missing_text([(error.name or str(error)).split(".")[0]]))
         return 1
     except MemoryError:
         complain(name, "out of memory")
@@ -57,11 +48,11 @@ def main(arguments: Sequence[str]) -> int:
         return 1
 
 
-def missing_module(name: str) -> str:
-    """What a user can do about a module of Python that isn't there."""
-    package = PACKAGES.get(name)
-    more = ": tools/install, or apt-get install %s" % package if package else ""
-    return "the Python module %s isn't installed%s" % (name, more)
+def missing_text(names: Sequence[str]) -> str:
+    """What a user can do about modules of Python that aren't there."""
+    packages = [PACKAGES[name] for name in names if name in PACKAGES]
+    more = ": tools/install, or apt-get install %s" % " ".join(packages) if packages else ""
+    return "%s has no module %s%s" % (sys.executable, ", ".join(names), more)
 
 
 def closes_output(error: OSError) -> bool:

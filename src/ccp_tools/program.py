@@ -57,24 +57,16 @@ def find_program(path: str | Path | None = None) -> Path:
 
 
 def of_checkout(top: Path) -> Path:
-    """The program of a checkout. The unproved one is compiled first where there is none yet."""
-    proved = top / "crates" / "ccp" / "out" / "ccp"
-    if proved.exists():
-        return proved
-    return Path(asked_of_launcher(top))
-
-
-def asked_of_launcher(top: Path) -> str:
-    """The path of the unproved program that the launcher keeps. It is compiled where it has to be, and the compiler's
-    lines go to standard error."""
+    """The program that `./ccp` runs in a checkout. The unproved one is compiled first where it has to be; the lines of
+    the compiler go to standard error."""
     command = top / "tools" / "launcher" / "checked-program"
     try:
-        ran = subprocess.run([str(command)], stdin=subprocess.DEVNULL, stdout=subprocess.PIPE, text=True)
+        ran = subprocess.run([str(command), "--chosen"], stdin=subprocess.DEVNULL, stdout=subprocess.PIPE, text=True)
     except OSError as error:
         raise NoProgram("%s: %s" % (command, error.strerror)) from None
     if ran.returncode or not ran.stdout.strip():
         raise NoProgram("the unproved program isn't compiled; --ccp PATH or CCP_PROGRAM=PATH names another")
-    return ran.stdout.strip()
+    return Path(ran.stdout.strip())
 
 
 def installed() -> Path | None:
@@ -203,28 +195,16 @@ def identity(path: Path) -> Identity:
 
 
 def is_proved(path: Path) -> bool:
-    """Whether a program is the proved one: that of the checkout, which `./ccp --prove` and the tests build, and no
+    """Whether a program is the proved one: that of the checkout, which `./ccp --prove` and the tests build, where no
     source is newer; or one that was installed beside its launcher."""
     top = checkout()
     if top:
         proved = top / "crates" / "ccp" / "out" / "ccp"
-        return proved.exists() and path.samefile(proved) and is_current(proved, top)
+        command = [str(top / "tools" / "launcher" / "checked-program"), "--proved"]
+        if not (proved.exists() and path.samefile(proved)):
+            return False
+        return subprocess.run(command, stdin=subprocess.DEVNULL, stdout=subprocess.DEVNULL).returncode == 0
     return path.parent.name == "ccp" and path.parent.parent.name == "libexec"
-
-
-def is_current(built: Path, top: Path) -> bool:
-    """Whether no source of the crates is newer than a program that was built of them."""
-    begun = built.stat().st_mtime
-    if (top / "crates.txt").stat().st_mtime > begun:
-        return False
-    for crate in (top / "crates").iterdir():
-        for folder, folders, names in os.walk(crate):
-            if Path(folder) == crate:
-                folders[:] = [name for name in folders if name != "out"]
-            for name in names:
-                if name.endswith((".rt", ".antt")) and os.stat(os.path.join(folder, name)).st_mtime > begun:
-                    return False
-    return True
 
 
 def note(text: str) -> None:

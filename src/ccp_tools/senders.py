@@ -14,8 +14,8 @@ import argparse
 from dataclasses import dataclass
 from typing import Dict, List, Mapping, Sequence, Tuple
 
-from .arguments import Parse, add_portus, is_name, list_of, shown
-from .errors import CcpError
+from .arguments import add_portus, is_name, list_of, shown
+from .errors import CcpError, UsageError
 from .files import read_text
 from .tables import AGENTS, LIMITS
 
@@ -70,25 +70,18 @@ def base_name(program: str) -> str:
     return "".join(letter if is_name(letter) else "-" for letter in base) or "program"
 
 
-def senders(most: int | None = None) -> Parse[List[Sender]]:
-    """A parser of a list of at most `most` senders with different labels."""
-    listed = list_of(sender, most)
-
-    def parse(text: str) -> List[Sender]:
-        found = listed(text)
-        labels = [one.label for one in found]
-        for label in labels:
-            if labels.count(label) > 1:
-                raise argparse.ArgumentTypeError("two senders have the label %s: LABEL=AGENT:.. gives another" % label)
-        return found
-
-    return parse
+def check_labels(found: Sequence[Sender]) -> None:
+    """Refuses senders with equal labels, where a label stands for one of them."""
+    labels = [one.label for one in found]
+    for label in labels:
+        if labels.count(label) > 1:
+            raise UsageError("two senders have the label %s: LABEL=AGENT:.. gives another" % label)
 
 
 def add_senders(parser: argparse._ActionsContainer, most: int | None = None, required: bool = False) -> None:
     """Adds --senders LIST, as the list `arguments.senders` (None where it isn't given), and --portus NAME=FILE."""
     what = "the senders, with commas between: %s" % ", ".join([*AGENTS, "LABEL=PROGRAM", "LABEL=AGENT:PROGRAM"])
-    parser.add_argument("--senders", type=senders(most), required=required, metavar="LIST", help=what)
+    parser.add_argument("--senders", type=list_of(sender, most), required=required, metavar="LIST", help=what)
     add_portus(parser)
 
 

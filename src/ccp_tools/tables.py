@@ -38,10 +38,11 @@ class Option:
 
 @dataclass(frozen=True)
 class Command:
-    """A sub-command of the package: the module that has it, and what it does in a line."""
+    """A sub-command of the package: the module that has it, the modules of others that it uses, and what it does."""
 
     name: str
     module: str
+    modules: Tuple[str, ...]
     does: str
 
 
@@ -215,49 +216,65 @@ COMMANDS: Dict[str, Command] = {
     "compare": Command(
         name="compare",
         module="compare",
+        modules=("pandas", "numpy", "scipy", "matplotlib", "jinja2"),
         does="compares senders over traces: tables, figures and a report",
     ),
     "scenario": Command(
         name="scenario",
         module="scenario",
+        modules=(),
         does="makes a scenario from traces and a grid of senders, queues, delays and losses",
     ),
     "trace": Command(
         name="trace",
         module="traces",
+        modules=(),
         does="shows, cuts, makes and converts traces of links",
     ),
     "metrics": Command(
         name="metrics",
         module="metrics",
+        modules=("pandas", "numpy", "scipy"),
         does="throughput, delay, loss and fairness of each case",
     ),
     "plot": Command(
         name="plot",
         module="plots",
+        modules=("pandas", "numpy", "scipy", "matplotlib"),
         does="plots bars, scatter, distributions and flows over time",
     ),
     "explain": Command(
         name="explain",
         module="explain",
+        modules=(),
         does="explains why an input is refused, and where",
     ),
     "table": Command(
         name="table",
         module="table",
+        modules=(),
         does="writes what a mode printed as CSV or JSON",
     ),
     "verify": Command(
         name="verify",
         module="verify",
+        modules=(),
         does="checks a live text against its scenario, and shows the first line that differs",
     ),
     "over": Command(
         name="over",
         module="over",
+        modules=(),
         does="runs a large scenario in parts, on several machines if you like",
     ),
 }
+
+# the Debian packages of modules that commands use
+PACKAGES: Dict[str, str] = {'pandas': 'python3-pandas',
+ 'numpy': 'python3-numpy',
+ 'scipy': 'python3-scipy',
+ 'matplotlib': 'python3-matplotlib',
+ 'jinja2': 'python3-jinja2'}
 
 # the primitives in the order of their numbers, as a program writes them
 PRIMITIVE_WORDS: List[str] = ['Ack.bytes_acked', 'Ack.packets_acked', 'Ack.bytes_misordered', 'Ack.packets_misordered', 'Ack.ecn_bytes',

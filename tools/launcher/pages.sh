@@ -1,80 +1,89 @@
-# shellcheck shell=bash disable=SC2154,SC2034
-# The pages that the launcher answers with: help, the help of a mode, and the version.
+# shellcheck shell=bash disable=SC2154
+# The pages that the launcher answers with: help, the help of a mode or of a sub-command, and the version.
 
-# The rows of README's table of modes: of each mode its name, what it reads, what it does, its page and an example, with tabs
-# between.
-mode_rows() {
-    awk '
-        /^## / { within = $0 == "## Modes" }
-        within && /^\| `/ {
-            gsub(/\\\|/, "\001")
-            split($0, cells, / *\| */)
-            page = "-"
-            if (match(cells[3] cells[4], /docs\/[a-z]*\.md/)) page = substr(cells[3] cells[4], RSTART, RLENGTH)
-            gsub(/ \(\[[^)]*\)\)/, "", cells[4])
-            for (i = 2; i <= 5; i++) {
-                cells[i] = without_links(cells[i])
-                gsub(/`/, "", cells[i])
-                gsub("\001", "|", cells[i])
-            }
-            printf "%s\t%s\t%s\t%s\t%s\n", cells[2], cells[3], cells[4], page, cells[5]
-        }
-        function without_links(text) {
-            while (match(text, /\[[^]]*\]\([^)]*\)/)) {
-                link = substr(text, RSTART + 1, RLENGTH - 1)
-                text = substr(text, 1, RSTART - 1) substr(link, 1, index(link, "]") - 1) substr(text, RSTART + RLENGTH)
-            }
-            return text
-        }
-    ' "$here/README.md"
+# Prints the page that the words ask for, and ends.
+show_page() {
+    case $page in
+        help) page_of_help ;;
+        mode) page_of_mode "$named" ;;
+        version) page_of_version ;;
+        command)
+            # shellcheck source=tools/launcher/commands.sh
+            . "$launcher/commands.sh"
+            run_command "$named" --help
+            ;;
+    esac
+    exit 0
 }
 
 # The options that a mode uses, or all, a line each.
 page_of_options() {
     local row name least most used text value
-    for row in "${option_table[@]}"; do
-        read -r name least most used text <<< "$row"
+    for row in "${option_rows[@]}"; do
+        IFS=$'\t' read -r name least most used text <<< "$row"
         if [ $# -gt 0 ] && [[ ,$used, != *,$1,* ]]; then continue; fi
-        if [ "$least" = - ]; then value=''; else value=" N"; text+=", $least to $most, 1 by default"; fi
+        if [ "$least" = - ]; then
+            value=''
+        else
+            value=' N'
+            if [ "$name" = workers ]; then text+=", $least to $most, as many as processors by default"; else text+=", $least to $most, 1 by default"; fi
+        fi
         if [ $# -eq 0 ]; then text+=" (${used//,/, })"; fi
         printf '  %-14s %s\n' "--$name$value" "$text"
     done
 }
 
 page_of_help() {
-    cat <<'END_OF_PAGE'
+    local row name reads text page example means statuses=()
+    cat <<END_OF_PAGE
 ccp [OPTION].. MODE [FILE]..
+ccp COMMAND [ARGUMENT]..
 
 Compares congestion-control programs over recorded link traces: compiles them, verifies them, and runs them over virtual
 links with agents such as Reno and CUBIC. Input comes from FILE, or from standard input if there is none.
 
-Modes:
+Commands, from traces to figures (Python):
 END_OF_PAGE
-    mode_rows | while IFS=$'\t' read -r name _ text _ example; do printf '  %-9s %s\n              %s\n' "$name" "$text" "$example"; done
-    printf '\nOptions, before or after the mode, each at most once:\n'
+    for row in "${command_rows[@]}"; do
+        IFS=$'\t' read -r name text <<< "$row"
+        printf '  %-9s %s\n' "$name" "$text"
+    done
+    printf '\nModes of the proved program:\n'
+    for row in "${mode_rows[@]}"; do
+        IFS=$'\t' read -r name reads text page example <<< "$row"
+        printf '  %-9s %s\n              %s\n' "$name" "$text" "${example//.\/ccp/$called}"
+    done
+    printf '\nOptions of modes, before or after the mode, each at most once:\n'
     page_of_options
-    cat <<'END_OF_PAGE'
+    for row in "${status_rows[@]}"; do
+        IFS=$'\t' read -r name means <<< "$row"
+        statuses+=("$name $means")
+    done
+    cat <<END_OF_PAGE
 
   fold PROGRAM ACKS and audit SCENARIO TEXT take two FILEs, which are joined by the line ---.
   MODE --help      what a mode reads and prints, and its options
-  --version        the version, the commit, and the toolchain that proved the program
+  COMMAND --help   what a command does, and its arguments
+  --version, -V    the version, the commit, and the toolchain that proved the program
   --prove          proves and builds the program; until then an unproved, checked run answers
-  CCP_PROGRAM=PATH names a program that was built elsewhere
+  CCP_PROGRAM=PATH names another program, and CCP_PYTHON=PATH another interpreter of Python
 
-Exit status: 0 done, 2 words refused, 3 input refused, 4 read fault, 5 write fault, 6 out of memory.
-More: README.md, docs/, man -l docs/ccp.1. The scripts of tools/ make scenarios, CSV and pictures.
+Exit status of a mode: $(joined_by ', ' "${statuses[@]}").
+More: man ccp (in the repository man -l docs/ccp.1), README.md and docs/.
 END_OF_PAGE
 }
 
 # The page of one mode.
 page_of_mode() {
-    local name reads text page example options files
+    local row name reads text page example options files
     options=$(page_of_options "$1")
-    files=$(files_of "$1")
+    files=${files_of[$1]}
     if [ "${files/ /}" != "$files" ]; then files="FILE | $files"; fi
     printf 'ccp %s%s%s\n\n' "${options:+[OPTION].. }" "$1" "${files:+ [$files]}"
-    IFS=$'\t' read -r name reads text page example < <(mode_rows | grep "^$1"$'\t')
-    printf '%s.\nReads %s.\n\n  %s\n' "${text^}" "$reads" "$example"
+    for row in "${mode_rows[@]}"; do
+        if [ "${row%%$'\t'*}" = "$1" ]; then IFS=$'\t' read -r name reads text page example <<< "$row"; fi
+    done
+    printf '%s.\nReads %s.\n\n  %s\n' "${text^}" "$reads" "${example//.\/ccp/$called}"
     if [ -n "$options" ]; then printf '\nOptions:\n%s\n' "$options"; fi
     if [ "$page" != - ]; then page+=', '; else page=''; fi
     printf '\nMore: %sdocs/formats.md\n' "$page"
@@ -82,13 +91,22 @@ page_of_mode() {
 
 # The version, the commit and the toolchain, with what was proved.
 page_of_version() {
+    if [ -d "$here/crates" ]; then
+        version_of_checkout
+    else
+        cat "${launcher%/launcher}/version"
+        if [ -n "${CCP_PROGRAM:-}" ]; then echo "program that runs: $CCP_PROGRAM, by CCP_PROGRAM"; fi
+    fi
+}
+
+version_of_checkout() {
     local version commit record=$proved.toolchain
     read -r version < "$here/VERSION"
     commit=$(git -C "$here" describe --always --dirty --exclude '*' 2>/dev/null) || commit='no commit known'
     echo "ccp $version ($commit)"
     if [ -n "${CCP_PROGRAM:-}" ]; then
-        echo "program: $CCP_PROGRAM, built elsewhere"
-    elif ! is_current "$proved"; then
+        echo "program: $CCP_PROGRAM, by CCP_PROGRAM"
+    elif ! is_current "$proved" "$kept/ccp"; then
         echo 'program: not proved yet, or older than its sources; ./ccp --prove proves and builds it'
     elif [ -e "$record" ] && [ ! "$record" -ot "$proved" ]; then
         echo "program: proved with $(cat "$record")"

@@ -1,31 +1,13 @@
 # shellcheck shell=bash disable=SC2154,SC2034
 # The words of the command line. What is refused here is what the program refuses (docs/formats.md, "Words"), except
-# that a word after the mode may name a FILE. Sourced by the launcher, in pure bash, so that it takes no time.
+# that a word after the mode may name a FILE. Sourced by the launcher after tables.sh, in pure bash, so that it takes
+# no time.
+#
+# It sets `mode`, `options` (as the program takes them), `files`, and `page`; and `wrong` to what is refused.
 
-# Each option, the least and the greatest value, and what it is; of a flag, no values. The modes that use it come last.
-option_table=(
-    'datapaths 1 32 live,rollout threads of datapaths'
-    'agents 1 32 live,rollout threads of agents'
-    'workers 1 32 campaign,soak,shared,timeline,acks threads that share the cases or flows'
-    'number 0 4294967295 soak the number from which the cases are drawn'
-    'wire - - live,campaign,timeline prints the Install frames of the programs first'
-)
-
-# Sets `modes` to the names of the modes, from the definition of the command line.
-read_modes() {
-    local line
-    modes=()
-    while IFS= read -r line; do
-        while [[ $line =~ \(codes\ \"([a-z]+)\" ]]; do
-            modes+=("${BASH_REMATCH[1]}")
-            line=${line#*"${BASH_REMATCH[0]}"}
-        done
-    done < "$here/crates/ccp_words/specs/Modes.antt"
-}
-
-is_mode() {
+is_one_of() {
     local one
-    for one in "${modes[@]}"; do
+    for one in "${@:2}"; do
         if [ "$one" = "$1" ]; then return 0; fi
     done
     return 1
@@ -40,54 +22,22 @@ is_number() {
     [ ${#digits} -le 10 ] && [ "$digits" -ge "$2" ] && [ "$digits" -le "$3" ]
 }
 
-# What a mode reads, without the targets of links: the second cell of its row in README's table of modes.
-reads_of() {
-    local line cell link='\[([^]]*)\]\([^)]*\)'
-    while IFS= read -r line; do
-        if [[ $line == "| \`$1\` |"* ]]; then
-            cell=${line#*| *| }
-            cell=${cell%% |*}
-            while [[ $cell =~ $link ]]; do cell=${cell/"${BASH_REMATCH[0]}"/"${BASH_REMATCH[1]}"}; done
-            printf '%s' "$cell"
-            return
-        fi
-    done < "$here/README.md"
-}
-
-# The FILEs that a mode takes: two if it reads one thing and another.
-files_of() {
-    case $(reads_of "$1") in
-        nothing) ;;
-        'a program and acknowledgements') echo 'PROGRAM ACKS' ;;
-        *' and '*) echo 'SCENARIO TEXT' ;;
-        *) echo FILE ;;
-    esac
-}
-
-most_files() {
-    files_of "$1" | wc -w
-}
-
-# Whether a mode uses the option $2, by the table of options.
 uses_option() {
-    local row name used
-    for row in "${option_table[@]}"; do
-        read -r name _ _ used _ <<< "$row"
-        if [ "$name" = "$2" ]; then [[ ,$used, == *,$1,* ]]; return; fi
-    done
-    return 1
+    [[ " ${options_of[$1]} " == *" $2 "* ]]
 }
 
 # Reads the option $1, whose value is $2 if it was written with one, and else the first of `following`.
 # Sets `taken` to how many of the following words it takes, and `wrong` to what is refused.
 read_option() {
-    local name=${1#--} row least='' most value written
+    local name=${1#--} row one least='' greatest most value written
     taken=0
-    for row in "${option_table[@]}"; do
-        if [ "$name" = "${row%% *}" ]; then read -r _ least most _ <<< "$row"; fi
+    for row in "${option_rows[@]}"; do
+        IFS=$'\t' read -r one least greatest _ <<< "$row"
+        if [ "$name" = "$one" ]; then most=$greatest; break; fi
+        least=''
     done
     if [ -z "$least" ]; then
-        wrong="$1 is no option: the options are --datapaths, --agents, --workers, --number and --wire"
+        wrong="$1 is no option$(meant "$1" "${option_names[@]}" --help --version --prove): the options are $(joined_by ', ' "${option_names[@]}")"
         if [ "$1" = --prove ]; then wrong='--prove comes first, and without a mode'; fi
     elif [[ $given == *" $name "* ]]; then
         wrong="$1 is given twice: each option may be given once"
@@ -108,28 +58,33 @@ read_option() {
 
 # Reads a word that is no option: the mode, and after it the FILEs.
 read_place() {
+    local taken_files
     if [ -z "$mode" ]; then
         mode=$1
-        is_mode "$1" || wrong=$(no_mode "$1")
+        is_one_of "$1" "${modes[@]}" || wrong=$(no_mode "$1")
     elif [ -z "$1" ]; then
         wrong='an empty word is no option and no FILE'
     elif [ "$1" != - ] && [ ! -e "$1" ]; then
-        wrong="$1 is no option, and no FILE of this name is there"
+        wrong="there is no file $1"
     elif [ -d "$1" ]; then
         wrong="$1 is a folder, and a FILE is accepted"
     elif [ "$1" != - ] && [ ! -r "$1" ]; then
         wrong="$1 can't be read"
     else
         files+=("$1")
-        if [ ${#files[@]} -gt "$(most_files "$mode")" ]; then
-            wrong="$1 is one FILE too many: $mode takes $(most_files "$mode" | sed 's/^0$/none/')"
+        read -ra taken_files <<< "${files_of[$mode]}"
+        if [ ${#files[@]} -gt ${#taken_files[@]} ]; then
+            wrong="$1 is one FILE too many: $mode takes ${#taken_files[@]}"
+            wrong=${wrong/%takes 0/takes none}
         fi
     fi
     [ -z "$wrong" ]
 }
 
 no_mode() {
-    printf '%s is no mode: the modes are %s' "${1:-the empty word}" "$(joined_by ', ' "${modes[@]}")"
+    printf '%s is no mode%s: ' "${1:-the empty word}" "$(meant "$1" "${modes[@]}" "${commands[@]}")"
+    printf 'the modes are %s' "$(joined_by ', ' "${modes[@]}")"
+    printf ', and the commands %s' "$(joined_by ', ' "${commands[@]}")"
 }
 
 joined_by() {
@@ -139,11 +94,40 @@ joined_by() {
     printf '%s' "$text"
 }
 
-# Reads the words: sets `mode`, `options` (as the program takes them) and `files`, or `wrong` to what is refused.
+# Which of the words $2.. was perhaps meant by $1: one that differs by at most two letters, and by less than half of them.
+meant() {
+    local one best='' least=3 distance
+    if [ ${#1} -gt 20 ]; then return; fi
+    for one in "${@:2}"; do
+        measure_distance "$1" "$one"
+        if [ "$distance" -lt "$least" ] && [ $((2 * distance)) -lt ${#one} ]; then best=$one least=$distance; fi
+    done
+    if [ -n "$best" ]; then printf ' (did you mean %s?)' "$best"; fi
+}
+
+# Sets `distance` to how many letters have to be changed, put in or left out to make $2 of $1.
+measure_distance() {
+    local i j above corner cost row=()
+    for ((j = 0; j <= ${#2}; j++)); do row[j]=$j; done
+    for ((i = 1; i <= ${#1}; i++)); do
+        corner=${row[0]}
+        row[0]=$i
+        for ((j = 1; j <= ${#2}; j++)); do
+            above=${row[j]}
+            if [ "${1:i-1:1}" = "${2:j-1:1}" ]; then cost=$corner; else cost=$((corner + 1)); fi
+            if [ $((above + 1)) -lt "$cost" ]; then cost=$((above + 1)); fi
+            if [ $((row[j - 1] + 1)) -lt "$cost" ]; then cost=$((row[j - 1] + 1)); fi
+            row[j]=$cost
+            corner=$above
+        done
+    done
+    distance=${row[${#2}]}
+}
+
+# Reads the words: sets `mode`, `options` and `files`, or `wrong`.
 read_words() {
     local given=' ' ended='' word taken following
     mode='' options=() files=() wrong=''
-    read_modes
     while [ $# -gt 0 ]; do
         word=$1
         shift
@@ -161,34 +145,45 @@ read_words() {
 
 # Ends as the program does at refused words, with its line, and with a second one that names the word and what is accepted.
 refuse_words() {
-    printf 'ccp: words refused\nccp: %s (./ccp --help)\n' "$wrong" >&2
+    printf 'ccp: words refused\nccp: %s (%s --help)\n' "$wrong" "$called" >&2
     exit 2
 }
 
-# Sets `page` to what page the words ask for, if they do: `help`, `mode` (the help of one mode), `version`, or nothing.
-# Sets `wrong` to what is refused: a word after `help` that is no mode.
+# Sets `page` to what page the words ask for, if they do: `help`, `mode` (the help of one mode), `command` (that of a
+# sub-command), `version`, or nothing. Sets `named` to the mode or the sub-command, and `wrong` to what is refused: a
+# word after `help` that is neither.
 read_page() {
-    local word before='' named=''
-    page='' wrong=''
-    read_modes
+    local word before=''
+    page='' wrong='' named=''
     for word in "$@"; do
         case $word in
             --) break ;;
             --help | -h | help) page=help ;;
-            --version) page=${page:-version} ;;
+            --version | -V) page=${page:-version} ;;
             -?*) ;;
-            *) if is_mode "$word"; then named=yes; elif [ "$before" = help ]; then wrong=$(no_mode "$word"); fi ;;
+            *) read_page_word "$word" "$before" ;;
         esac
         before=$word
     done
-    if [ "$page" = help ] && [ -n "$named" ]; then page=mode; fi
+    if [ "$page" = help ] && [ -n "$named" ]; then
+        if is_one_of "$named" "${modes[@]}"; then page=mode; else page="command"; fi
+    fi
     [ -z "$wrong" ]
 }
 
-first_mode() {
-    local word
-    read_modes
-    for word in "$@"; do
-        if is_mode "$word"; then printf '%s' "$word"; return; fi
-    done
+read_page_word() {
+    if is_one_of "$1" "${modes[@]}" || { [ "$2" = help ] && is_one_of "$1" "${commands[@]}"; }; then
+        named=${named:-$1}
+    elif [ "$2" = help ]; then
+        wrong=$(no_mode "$1")
+    fi
 }
+
+# How a user calls the launcher here.
+if [ -d "$here/tools/launcher" ]; then
+    if [ "$PWD" = "$here" ]; then called=./ccp; else printf -v called %q "$here/ccp"; fi
+else
+    called=ccp
+fi
+option_names=()
+for row in "${option_rows[@]}"; do option_names+=("--${row%%$'\t'*}"); done

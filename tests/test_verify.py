@@ -1,47 +1,64 @@
-"""Tests of tools/audit: its verdicts are the program's, and the line that it shows is the one that was changed."""
+"""Tests of `ccp verify`: its verdicts are the program's, and the line that it shows is the one that was changed."""
 import json
 import os
 import re
-import sys
 import tempfile
 
-from harness import PROGRAM, TOOLS, TOP, ccp, expect, tool
+from support import EXAMPLES, ccp, command
 
-sys.path.insert(0, TOOLS)
-from ccp import AGENTS
-from explaining import flows
+from ccp_tools.reference import flow as reference
+from ccp_tools.tables import AGENTS
 
-CASE = {"name": "a", "agent": "reno", "trace": "t", "mss": 1448, "queue": 10, "delay_us": 20000, "timeout_us": 1000000, "acks": 24}
+CASE = {
+    "name": "a",
+    "agent": "reno",
+    "trace": "t",
+    "mss": 1448,
+    "queue": 10,
+    "delay_us": 20000,
+    "timeout_us": 1000000,
+    "acks": 24,
+}
 FAULTY = "(def (Report (volatile acked 0)) (left 9)) (when true (:= left (- left 1)) (:= Report.acked (+ Report.acked Ack.bytes_acked)) (report))"
-SCENARIO = json.dumps({"version": 1, "traces": {"t": "10\n12\n"}, "programs": {"f": FAULTY}, "cases": [
-    CASE, {**CASE, "name": "b", "agent": "cubic", "losses": [7], "mark": 3}, {**CASE, "name": "c", "ss": "f", "ca": "f", "slots": 1}]})
+SCENARIO = json.dumps(
+    {
+        "version": 1,
+        "traces": {"t": "10\n12\n"},
+        "programs": {"f": FAULTY},
+        "cases": [
+            CASE,
+            {**CASE, "name": "b", "agent": "cubic", "losses": [7], "mark": 3},
+            {**CASE, "name": "c", "ss": "f", "ca": "f", "slots": 1},
+        ],
+    }
+)
 
 
 def live(*words, scenario=SCENARIO):
     """A live text that is the same on every run, so that what a change of it makes is known."""
-    text, errors, status = ccp(["timeline", *words], scenario)
-    expect(status == 0, errors)
+    text, errors, status = ccp("timeline", *words, given=scenario)
+    assert status == 0, errors
     return text
 
 
 def verdict(scenario, text, status, *holds):
-    """What tools/audit prints of a scenario and a text in files."""
+    """What `ccp verify` prints of a scenario and a text in files."""
     with tempfile.TemporaryDirectory() as room:
         paths = [os.path.join(room, name) for name in ("scenario.json", "run.txt")]
         for path, given in zip(paths, (scenario, text)):
             with open(path, "w", encoding="utf-8", newline="") as file:
                 file.write(given)
-        printed, errors, ended = tool("audit", "--program", PROGRAM, *paths)
-    expect(ended == status and not errors, "status %d, %s%s" % (ended, printed, errors))
+        printed, errors, ended = command("verify", *paths)
+    assert ended == status and not errors, "status %d, %s%s" % (ended, printed, errors)
     for part in holds:
-        expect(part in printed, "%r isn't in\n%s" % (part, printed))
+        assert part in printed, "%r isn't in\n%s" % (part, printed)
     return printed
 
 
 def test_audit_takes_live_texts():
-    expect(verdict(SCENARIO, live(), 0) == "yes\n", "yes")
+    assert verdict(SCENARIO, live(), 0) == "yes\n", "yes"
     text = live("--datapaths", "3", "--agents", "2")
-    expect(verdict(SCENARIO + "\n", text, 0) == "yes\n", "a scenario with its line end")
+    assert verdict(SCENARIO + "\n", text, 0) == "yes\n", "a scenario with its line end"
     verdict(SCENARIO, text.replace("\n", "\r\n"), 0)
     verdict(SCENARIO, text[:-1], 0)
     verdict(SCENARIO, live("--wire"), 0)
@@ -60,7 +77,7 @@ def test_audit_shows_the_line_that_was_changed():
         text = "\n".join([*lines[:at], changed(line), *lines[at + 1 :]]) + "\n"
         flow = sum(other.startswith("end ") for other in lines[:at])
         printed = verdict(SCENARIO, text, 1, "no flow %d\n" % flow, "run.txt:%d: " % (at + 1))
-        expect("  expected  %s\n" % line in printed, "%s\n%s" % (line, printed))
+        assert "  expected  %s\n" % line in printed, "%s\n%s" % (line, printed)
 
 
 def test_audit_shows_where_a_text_ends():
@@ -70,14 +87,20 @@ def test_audit_shows_where_a_text_ends():
         printed = verdict(SCENARIO, text, 1)
         if "ends before" not in printed:
             # the tickets that are missing were to change the epochs above
-            expect(re.search(r"run.txt:[0-9]+: ", printed) or "expected" in printed, printed)
+            assert re.search(r"run.txt:[0-9]+: ", printed) or "expected" in printed, printed
 
 
 def test_audit_counts_install_lines():
     text = live("--wire")
     installs = text.count("install ")
-    expect(installs == 4, "%d lines" % installs)
-    verdict(SCENARIO, text.replace("flow 0 case=a", "flow 0 case=b"), 1, "no flow 0\n", "run.txt:%d: another line begins flow 0" % (installs + 1))
+    assert installs == 4, "%d lines" % installs
+    verdict(
+        SCENARIO,
+        text.replace("flow 0 case=a", "flow 0 case=b"),
+        1,
+        "no flow 0\n",
+        "run.txt:%d: another line begins flow 0" % (installs + 1),
+    )
     verdict(SCENARIO, text + "more\n", 1, "no flow 3\n", "the text goes on after its last flow")
 
 
@@ -94,27 +117,33 @@ def test_audit_has_no_verdict():
         path = os.path.join(room, "bad.json")
         with open(path, "w") as file:
             file.write('{"version":2}')
-        for words in (["-", "-"], ["no-such-file", "-"], [path, "-"], [path], ["--program", "/no/such", path, "-"]):
-            printed, errors, status = tool("audit", "--program", PROGRAM, *words, given="")
-            expect(status == 2 and not printed and errors.startswith("tools/audit: ") and errors.count("\n") == 1, "%s: %d %s" % (words, status, errors))
-        expect("range version" in tool("audit", "--program", PROGRAM, path, "-", given="")[1], "the refusal")
+        for words in (["-", "-"], ["no-such-file", "-"], [path, "-"], [path], ["--ccp", "/no/such", path, "-"]):
+            printed, errors, status = command("verify", *words, given="")
+            assert (
+                status == 2 and not printed and errors.startswith("ccp verify: ") and errors.count("\n") == 1
+            ), "%s: %d %s" % (words, status, errors)
+        assert "range version" in command("verify", path, "-", given="")[1], "the refusal"
 
 
 def test_audit_works_flows_out_as_the_program():
-    """The campaign word's flows of tools/explaining are rows of `campaign`, and live texts to the judge, with each agent."""
+    """The campaign word's flows of the reference model are rows of `campaign`, and live texts to the judge, with each agent."""
     for name in ("campaign.json", "live.json"):
-        with open(os.path.join(TOP, "examples", name), encoding="utf-8") as file:
+        with open(EXAMPLES / name, encoding="utf-8") as file:
             scenario = json.load(file)
         cases = [{**case, "acks": min(case["acks"], 400)} for case in scenario["cases"][:12]]
-        scenario["cases"] = cases + [{**case, "agent": agent} for case in cases if "losses" in case for agent in AGENTS if agent != case["agent"]]
+        scenario["cases"] = cases + [
+            {**case, "agent": agent} for case in cases if "losses" in case for agent in AGENTS if agent != case["agent"]
+        ]
         text = json.dumps(scenario)
-        rows = ccp(["campaign"], text)[0].split("\n")[1:]
-        known, lines = flows.Programs(scenario), []
+        rows = ccp("campaign", given=text)[0].split("\n")[1:]
+        known, lines = reference.Programs(scenario), []
         for number, (case, row) in enumerate(zip(scenario["cases"], rows)):
-            flow = flows.Flow(number, case, scenario["traces"], known)
-            flows.campaign(flow)
+            flow = reference.Flow(number, case, scenario["traces"], known)
+            flow.run_campaign_word()
             lines += flow.lines()
             numbers = row.split(" ")
-            expect(numbers[2:7] == [str(one) for one in (flow.acks, flow.made, flow.held, len(flow.faults), len(flow.epochs))], row)
-            expect(numbers[10:12] == [str(flow.peak), str(flow.state.cwnd)], row)
+            assert numbers[2:7] == [
+                str(one) for one in (flow.acks, flow.made, flow.held, len(flow.faults), len(flow.epochs))
+            ], row
+            assert numbers[10:12] == [str(flow.peak), str(flow.state.cwnd)], row
         verdict(text, "".join(line + "\n" for line in lines), 0)
