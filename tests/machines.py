@@ -7,6 +7,7 @@ import contextlib
 import os
 import pwd
 import shutil
+import signal
 import socket
 import subprocess
 import time
@@ -119,8 +120,23 @@ def namespaces() -> Iterator[None]:
         yield
     finally:
         for name in made:
+            end_processes_in(name)
             ip("netns", "del", name, check=False)
+        # a namespace goes later than its name, and its link with it
+        for number in (1, 2, 3):
+            ip("link", "del", "%s-%d" % (BRIDGE, number), check=False)
         ip("link", "del", BRIDGE, check=False)
+
+
+def end_processes_in(namespace: str) -> None:
+    """Ends what still runs in a namespace that was made here, as the sessions of a host that was cut off."""
+    words = ["ip", "netns", "pids", namespace]
+    found = subprocess.run(
+        words, stdin=subprocess.DEVNULL, stdout=subprocess.PIPE, stderr=subprocess.DEVNULL, text=True
+    )
+    for number in found.stdout.split():
+        with contextlib.suppress(ProcessLookupError):
+            os.kill(int(number), signal.SIGKILL)
 
 
 @contextlib.contextmanager
