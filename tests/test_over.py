@@ -197,6 +197,22 @@ def test_a_part_that_fails_for_good_loses_nothing(tmp_path: Path, program: Path)
 
 
 @needs("parallel")
+def test_a_folder_of_its_own_is_kept_only_if_it_is_needed(tmp_path: Path, program: Path, monkeypatch: Any) -> None:
+    monkeypatch.setattr("tempfile.tempdir", str(tmp_path / "rooms"))
+    (tmp_path / "rooms").mkdir()
+    path = saved(tmp_path, grid({"fixed": TEXTS["fixed"]}, [10, 20], 60))
+    never = script(tmp_path, "never", "echo gone >&2; exit 255\n")
+    ran = over("--quiet", "--ccp", never, "--tries", 1, "--size", 1, path)
+    assert ran.status == 1 and "4 of 4 parts" in ran.errors and "gone" in ran.errors
+    assert over("--quiet", path).status == 0 and not list((tmp_path / "rooms").iterdir())
+    half = script(tmp_path, "half", 's=$(cat)\n[[ $s != *cubic-20* ]] || exit 6\n"%s" "$@" <<< "$s"\n' % program)
+    ran = over("--ccp", half, "--tries", 1, "--size", 1, path)
+    (kept,) = (tmp_path / "rooms").iterdir()
+    assert ran.status == 1 and "--resume --parts %s" % kept in ran.errors
+    assert len(list(kept.glob("*.result"))) == 4
+
+
+@needs("parallel")
 def test_parts_of_other_runs_are_not_mixed(tmp_path: Path, program: Path) -> None:
     scenario = grid({"fixed": TEXTS["fixed"]}, [10], 60)
     path, parts = saved(tmp_path, scenario), tmp_path / "parts"
@@ -301,7 +317,7 @@ def test_over_three_hosts(tmp_path: Path, program: Path) -> None:
         ran = over(*words, "--parts", parts, path)
         cutter.join()
     assert (ran.status, ran.output) == (0, wanted), ran.errors
-    assert "1/nowhere can't be reached and is left out" in ran.errors and "12 of 12 parts done" in ran.errors
+    assert "left out, since they can't be reached: 1/nowhere" in ran.errors and "12 of 12 parts done" in ran.errors
 
 
 @pytest.mark.slow

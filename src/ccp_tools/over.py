@@ -31,12 +31,11 @@ import argparse
 import hashlib
 import shlex
 import shutil
-import sys
 import tempfile
 from pathlib import Path
 from typing import List
 
-from .arguments import add_ccp, whole
+from .arguments import add_ccp, warn, whole
 from .errors import CcpError, UsageError
 from .files import read_bytes, reason_of
 from .over_runs import Folder, Job, Parallel, Progress, Runner, Slurm
@@ -71,6 +70,11 @@ def add_arguments(parser: argparse.ArgumentParser) -> None:
         "--tries", type=whole(1, 1000), default=3, metavar="N", help="how often a part is run at most (3)"
     )
     parser.add_argument("--wire", action="store_true", help="the programs' Install frames first")
+    add_machines(parser)
+
+
+def add_machines(parser: argparse.ArgumentParser) -> None:
+    """Adds the arguments that say where parts run."""
     machines = parser.add_argument_group("machines")
     machines.add_argument(
         "--sshlogin",
@@ -116,10 +120,7 @@ def run(arguments: argparse.Namespace) -> int:
         if folder.is_temporary and (isinstance(error, CcpError) and error.status == 3 or not folder.count_done()):
             shutil.rmtree(folder.path, ignore_errors=True)
         elif folder.is_temporary:
-            print(
-                "ccp over: the parts that are done are kept in %s; --resume --parts goes on" % folder.path,
-                file=sys.stderr,
-            )
+            warn("the parts that are done are kept: `ccp over --resume --parts %s ..` goes on" % folder.path)
         raise
     if folder.is_temporary:
         shutil.rmtree(folder.path, ignore_errors=True)
@@ -177,7 +178,9 @@ def work(arguments: argparse.Namespace, folder: Folder, job: Job) -> None:
     runner = runner_of(arguments, folder, job)
     if not folder.is_done():
         try:
-            runner.try_machines()
+            lost = runner.try_machines()
+            if lost and not arguments.quiet:
+                warn("left out, since they can't be reached: %s" % ", ".join(lost))
             with Progress(folder, arguments.quiet):
                 runner.run()
         finally:

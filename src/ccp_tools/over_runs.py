@@ -135,9 +135,11 @@ class Folder:
         return [at for at in range(self.count) if not self.has_answer(at)]
 
     def is_done(self) -> bool:
+        """Whether all parts have answers."""
         return not self.left()
 
     def count_done(self) -> int:
+        """How many parts have answers."""
         return self.count - len(self.left())
 
     def refusal(self) -> Tuple[str, int] | None:
@@ -198,6 +200,7 @@ class Progress:
             self.shower.join()
 
     def show(self) -> None:
+        """Shows it until the runs have ended."""
         is_terminal = sys.stderr.isatty()
         shown, last = -1, 0.0
         while True:
@@ -227,8 +230,10 @@ class Runner:
         self.tries = tries
         self.last_error = ""
 
-    def try_machines(self) -> None:
-        """Tries whether the machines can run the program; what can't is a CcpError."""
+    def try_machines(self) -> List[str]:
+        """Tries whether the machines can run the program, and returns those that can't be reached and are left out. One
+        that can't run it is a CcpError."""
+        return []
 
     def run(self) -> None:
         """Runs the parts that aren't done."""
@@ -255,10 +260,10 @@ class Parallel(Runner):
 
     # -- trying machines
 
-    def try_machines(self) -> None:
-        """Leaves out a machine that can't be reached, and refuses one that has another program."""
+    def try_machines(self) -> List[str]:
+        """Leaves out machines that can't be reached, returns them, and refuses one that has another program."""
         if not self.logins:
-            return
+            return []
         found = self.asked_machines()
         lost = [login for login in self.logins if login not in found]
         if len(lost) == len(self.logins):
@@ -268,9 +273,8 @@ class Parallel(Runner):
                 known = re.fullmatch(r"[0-9a-f]{64}", answer)
                 what = "has the SHA-256 %s there, and %s here" % (answer[:16], self.job.sha256[:16])
                 raise CcpError("%s: %s %s" % (login, self.job.program, what) if known else "%s: %s" % (login, answer))
-        for login in lost:
-            print("ccp over: %s can't be reached and is left out" % login, file=sys.stderr, flush=True)
         self.logins = [login for login in self.logins if login in found]
+        return lost
 
     def asked_machines(self) -> Dict[str, str]:
         """What each machine that can be reached answers: the SHA-256 of its program, or what it lacks."""
@@ -332,6 +336,7 @@ class Parallel(Runner):
     # -- running
 
     def run(self) -> None:
+        """Runs the parts that aren't done."""
         names = ["%06d.json" % at for at in self.folder.left()]
         words = [*self.command(), ":::", *names]
         try:

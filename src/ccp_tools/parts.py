@@ -77,9 +77,11 @@ class Splitter:
         yield first, len(self.cases)
 
     def is_full(self, cases: int, size: int) -> bool:
+        """Whether a part of so many cases, or of so many bytes with the next one, takes no more."""
         return cases >= self.size or size > LIMITS["input_bytes"]
 
     def has_too_many(self, acks: int) -> bool:
+        """Whether so many acknowledgements are more than a run takes."""
         return self.most_acks is not None and acks > self.most_acks
 
     def part(self, first: int, end: int) -> Part:
@@ -104,6 +106,7 @@ def acks_of(case: Any) -> int:
 
 
 def refuse_constant(name: str) -> NoReturn:
+    """Refuses NaN and Infinity, which Python takes for JSON."""
     raise ValueError("%s is no JSON" % name)
 
 
@@ -145,6 +148,7 @@ def print_joined(output: str, texts: Sequence[Path], firsts: Sequence[int]) -> N
 
 
 def text_in(path: Path) -> str:
+    """The text of a part's output."""
     return path.read_text(encoding="utf-8", errors="surrogateescape")
 
 

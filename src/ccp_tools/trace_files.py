@@ -87,6 +87,7 @@ def read_at_most(path: PathLike) -> bytes:
 
 
 def checked_length(data: bytes, path: PathLike) -> bytes:
+    """The bytes, unless there are too many."""
     if len(data) > MOST_BYTES:
         raise CcpError("%s: it has more than %d bytes" % (name_of(path), MOST_BYTES))
     return data

@@ -188,6 +188,7 @@ def most_equal(times: Sequence[int]) -> int:
 
 
 def info(given: argparse.Namespace) -> None:
+    """Prints what traces are like."""
     show([info_of(path, given.window, given.packet) for path in given.traces], "trace", given.json)
 
 
@@ -205,6 +206,7 @@ def show(found: List[Dict[str, Any]], head: str, is_json: bool) -> None:
 
 
 def cut(given: argparse.Namespace) -> None:
+    """Prints a part of a trace."""
     if given.to <= given.first:
         raise UsageError("--to %d isn't after --from %d" % (given.to, given.first))
     times = read_trace(given.trace, None)
@@ -212,6 +214,7 @@ def cut(given: argparse.Namespace) -> None:
 
 
 def scale(given: argparse.Namespace) -> None:
+    """Prints a trace with another rate or another length."""
     times = read_trace(given.trace, None)
     if given.time:
         write([round(time * given.time) for time in times])
@@ -228,6 +231,7 @@ def scale(given: argparse.Namespace) -> None:
 
 
 def from_csv(given: argparse.Namespace) -> None:
+    """Prints a trace of a CSV file."""
     is_rate = given.count in captures.RATES
     kind = given.kind or ("intervals" if is_rate else "packets")
     if is_rate and kind != "intervals":
@@ -250,18 +254,22 @@ def from_csv(given: argparse.Namespace) -> None:
 
 
 def from_iperf3(given: argparse.Namespace) -> None:
+    """Prints a trace of iperf3's JSON."""
     write(captures.chances(captures.iperf3_spans(given.file, given.packet, given.reverse)))
 
 
 def from_pcap(given: argparse.Namespace) -> None:
+    """Prints a trace of a packet capture."""
     write(captures.chances(captures.capture_spans(given.capture, given.packet, given.filter)))
 
 
 def from_mahimahi_log(given: argparse.Namespace) -> None:
+    """Prints the link of a log."""
     write(link_logs.times_of_log(given.log))
 
 
 def measured(given: argparse.Namespace) -> None:
+    """Prints what the real senders of logs had."""
     found = [measured_of_log(path, flow=given.flow, until_s=given.until) for path in given.logs]
     pages = [rounded(dataclasses.asdict(one)) for one in found]
     show(pages, "path", given.json)
@@ -273,6 +281,7 @@ def rounded(values: Dict[str, Any]) -> Dict[str, Any]:
 
 
 def to_mahimahi_log(given: argparse.Namespace) -> None:
+    """Prints a case of `ccp acks` as a log."""
     if given.scenario == given.acks == "-":
         raise UsageError("SCENARIO and ACKS can't both be standard input")
     scenario = read_scenario(given.scenario)
@@ -325,6 +334,7 @@ def case_of(scenario: Dict[str, Any], name: str, place: str) -> Dict[str, Any]:
 
 
 def make(given: argparse.Namespace) -> None:
+    """Prints a synthetic trace."""
     length = round(1000 * given.seconds)
     if not 1 <= length <= LONGEST_MS:
         raise CcpError("--seconds is at least 0.001 and at most %d" % (LONGEST_MS // 1000))
@@ -382,6 +392,7 @@ def command(kinds: Any, name: str, work: Any, what: str, has_packet: bool = True
 
 
 def add_changes(kinds: Any) -> None:
+    """Adds the commands that show and change traces."""
     made = command(
         kinds, "info", info, "Prints the length, the mean rate, the rate in windows, and the gaps of traces."
     )
@@ -403,6 +414,7 @@ def add_changes(kinds: Any) -> None:
 
 
 def add_csv(kinds: Any) -> None:
+    """Adds from-csv."""
     what = "Makes a trace of a CSV text. A packet is a chance each time that its bytes have come."
     made = command(kinds, "from-csv", from_csv, what)
     made.add_argument(
@@ -438,6 +450,7 @@ def add_csv(kinds: Any) -> None:
 
 
 def add_sources(kinds: Any) -> None:
+    """Adds from-iperf3 and from-pcap."""
     what = "Makes a trace of what `iperf3 --json` or --json-stream wrote."
     made = command(kinds, "from-iperf3", from_iperf3, what)
     made.add_argument("--reverse", action="store_true", help="the other direction of a run with --bidir")
@@ -449,6 +462,7 @@ def add_sources(kinds: Any) -> None:
 
 
 def add_logs(kinds: Any) -> None:
+    """Adds the commands that read and write logs of links."""
     what = "Makes a trace of the chances in a log of `mm-link --uplink-log` or --downlink-log, or in one of Pantheon's."
     made = command(kinds, "from-mahimahi-log", from_mahimahi_log, what, has_packet=False)
     made.add_argument("log", metavar="LOG")
@@ -466,6 +480,7 @@ def add_logs(kinds: Any) -> None:
 
 
 def add_makers(kinds: Any) -> None:
+    """Adds the commands that make synthetic traces."""
     whats = {
         "lte": "A wandering rate with outages.",
         "wifi": "Bursts and waits.",
