@@ -241,8 +241,8 @@ def test_the_size():
         status == 0
         and not errors
         and printed.startswith(
-            "cases=8 of at most 1024\nbytes=%d of at most 1048576\nacknowledgements=800\ntrace fixed chances=100 seconds=0.1 bytes="
-            % size
+            "cases=8 of at most 1024\nbytes=%d of at most 1048576\nacknowledgements=800\n"
+            "trace fixed chances=100 seconds=0.1 bytes=" % size
         )
     ), printed
     printed, errors, status = command(

@@ -13,8 +13,10 @@ fault epoch=0 ack=3 kind=Overflow at=1:20
 ticket 0 report program=0 epoch=0 span=0..4 taken=4 answered=4 reply=none now=60000 cwnd=10136 rate=0 acked=5792 loss=0 rtt=30000
 ticket 1 report program=0 epoch=0 span=4..6 taken=6 answered=7 reply=update:9000 now=90000 cwnd=20136 rate=0 acked=2896 loss=2 rtt=50000
 end acks=7 reports=2 held=0 faults=1 tail=6..7 stopped=no cwnd=10136 rate=0 acked=0 loss=0 rtt=30000
+"""  # noqa: E501
+FIELDS = """report program=0 epoch=0 span=0..1 now=5 cwnd=9 rate=0 now=77 span=3
+end acks=1 reports=1 tail=1..1 stopped=yes cwnd=9 rate=0 now=0 span=0
 """
-FIELDS = "report program=0 epoch=0 span=0..1 now=5 cwnd=9 rate=0 now=77 span=3\nend acks=1 reports=1 tail=1..1 stopped=yes cwnd=9 rate=0 now=0 span=0\n"
 ACKS = """flow 0 case=a agent=cubic
 lost_pkts_sample=3 now=200000 rate_outgoing=21720 was_timeout=1
 bytes_acked=1448 packets_acked=1 now=221000 rate_incoming=6552 rate_outgoing=26208 rtt_sample_us=21000

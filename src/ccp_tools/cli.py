@@ -23,6 +23,7 @@ from .tables import COMMANDS, PACKAGES
 def main(arguments: Sequence[str]) -> int:
     """Runs a command, and returns its exit status."""
     words = list(arguments)
+    open_streams()
     name = words[0] if words and words[0] in COMMANDS else ""
     try:
         status = dispatch(words)
@@ -38,6 +39,9 @@ def main(arguments: Sequence[str]) -> int:
     except ModuleNotFoundError as error:
         complain(name, missing_text([(error.name or str(error)).split(".")[0]]))
         return 1
+    except RecursionError:
+        complain(name, "the input is nested too deeply")
+        return 1
     except MemoryError:
         complain(name, "out of memory")
         return 1
@@ -46,6 +50,13 @@ def main(arguments: Sequence[str]) -> int:
             return leave_pipe()
         complain(name, ": ".join(str(part) for part in (error.filename, error.strerror or error) if part))
         return 1
+
+
+def open_streams() -> None:
+    """Gives a closed stream a place where nothing is read or written, so that no command meets one that isn't there."""
+    for name, mode in (("stdin", "r"), ("stdout", "w"), ("stderr", "w")):
+        if getattr(sys, name) is None:
+            setattr(sys, name, open(os.devnull, mode, encoding="utf-8"))
 
 
 def missing_text(names: Sequence[str]) -> str:

@@ -120,7 +120,7 @@ input_of_files() {
 # Runs the program $1 beside this shell, prints its error line, and sets `status`. At a terminal the seconds of a long run
 # are counted, except where what is typed is the input, and in `feed`, whose user answers.
 run_beside() {
-    local input errors output child counter='' filter=''
+    local input errors output child counter='' filter='' begun=$SECONDS
     if [ ${#files[@]} -gt 1 ]; then
         exec {input}< <(input_of_files)
     elif [ "${files[0]--}" != - ]; then
@@ -171,7 +171,7 @@ stop_program() {
 # Counts the seconds of a run on standard error, from the third one on. A pager, which has the terminal for itself, isn't
 # written over.
 count_seconds() {
-    local begun=$SECONDS never
+    local never
     exec {never}<> <(:)
     while kill -0 $$ 2>/dev/null; do
         read -rt 1 -u "$never"
@@ -184,7 +184,12 @@ count_seconds() {
 stop_counter() {
     if [ -z "$1" ] || ! kill "$1" 2>/dev/null; then return; fi
     { wait "$1"; } 2>/dev/null
-    if [[ $(stty -a <&2 2>/dev/null) != *-icanon* ]]; then printf '\r\033[K' >&2; fi
+    wipe_seconds
+}
+
+# Wipes the line of seconds, where one may have been printed since `begun`.
+wipe_seconds() {
+    if [ $((SECONDS - begun)) -ge 3 ] && [[ $(stty -a <&2 2>/dev/null) != *-icanon* ]]; then printf '\r\033[K' >&2; fi
 }
 
 # Passes the output on to the terminal; the counter $1 ends when it begins.
@@ -192,7 +197,7 @@ pass_on() {
     local line
     if IFS= read -r line; then line+=$'\n'; fi
     kill "$1" 2>/dev/null
-    printf '\r\033[K' >&2
+    wipe_seconds
     printf %s "$line"
     exec cat
 }

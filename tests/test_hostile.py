@@ -1,0 +1,128 @@
+"""Whatever a command is given, it ends with a line for its user, and never with a traceback."""
+from __future__ import annotations
+
+import os
+import subprocess
+import sys
+from pathlib import Path
+from typing import List
+
+import pytest
+from support import EXAMPLES, REPOSITORY, command
+
+from ccp_tools.tables import COMMANDS
+
+# the arguments of a command that reads FILE; OUT is a folder that may be written
+ARGUMENTS = {
+    "compare": [["FILE", "--senders", "reno", "--seconds", "1", "--out", "OUT"]],
+    "scenario": [["FILE"], ["--senders", "mine=FILE", str(EXAMPLES / "traces" / "fixed.trace")]],
+    "trace": [["info", "FILE"]],
+    "metrics": [["FILE", "FILE"]],
+    "plot": [["table", "FILE", "--out", "OUT/x.svg"]],
+    "explain": [["FILE"], ["--for", "campaign", "FILE"]],
+    "table": [["FILE"]],
+    "verify": [["FILE", "FILE"], [str(EXAMPLES / "live.json"), "FILE"]],
+    "over": [["FILE"]],
+}
+CASES = [(name, words) for name, lists in ARGUMENTS.items() for words in lists]
+CONTENTS = {
+    "empty": b"",
+    "binary": bytes(range(256)) * 64,
+    "zeros": b"\0" * 4096,
+    "utf-16": "flow 0 case=a agent=reno\n".encode("utf-16"),
+    "latin-1": b"caf\xe9\n",
+    "one long line": b"x" * (4 << 20),
+    "deep": b"[" * 200_000,
+    "digits": b"9" * 20_000,
+    "one number": b"1\n",
+}
+
+
+def test_each_command_is_tried():
+    assert set(ARGUMENTS) == set(COMMANDS)
+
+
+def words_of(words: List[str], path: Path, folder: Path) -> List[str]:
+    return [word.replace("FILE", str(path)).replace("OUT", str(folder)) for word in words]
+
+
+def check(name: str, words: List[str]) -> None:
+    """Runs a command: it ends by itself, without a traceback, and a refusal is one line that names the command."""
+    ran = command(name, *words, timeout=120)
+    assert "Traceback" not in ran.errors, ran.errors
+    assert 0 <= ran.status < 128, "%d: %s" % (ran.status, ran.errors)
+    if ran.status and ran.errors and not ran.output:
+        lines = [line for line in ran.errors.splitlines() if not line.startswith("ccp: warning: ")]
+        assert lines[-1].startswith("ccp %s: " % name), ran.errors
+
+
+@pytest.mark.parametrize("content", CONTENTS)
+@pytest.mark.parametrize("name, words", CASES)
+def test_a_file_of_anything(program: Path, tmp_path: Path, name: str, words: List[str], content: str) -> None:
+    path = tmp_path / "given"
+    path.write_bytes(CONTENTS[content])
+    check(name, words_of(words, path, tmp_path))
+
+
+@pytest.mark.parametrize("name, words", CASES)
+def test_a_folder_and_no_file(program: Path, tmp_path: Path, name: str, words: List[str]) -> None:
+    for path in (tmp_path, tmp_path / "none", Path("/dev/null"), tmp_path / ("x" * 300)):
+        check(name, words_of(words, path, tmp_path))
+
+
+@pytest.mark.parametrize("name, words", CASES)
+def test_no_input(program: Path, tmp_path: Path, name: str, words: List[str]) -> None:
+    check(name, words_of(words, Path("-"), tmp_path))
+
+
+@pytest.mark.parametrize("name", COMMANDS)
+def test_wrong_arguments_are_one_line_with_status_2(name: str) -> None:
+    ran = command(name, "--no-such-option")
+    assert (ran.output, ran.status) == ("", 2)
+    assert ran.errors.startswith("ccp %s: " % name) and ran.errors.count("\n") == 1
+
+
+@pytest.mark.parametrize("name", COMMANDS)
+def test_help_and_version(name: str) -> None:
+    ran = command(name, "--help")
+    assert ran.status == 0 and not ran.errors and ran.output.startswith("usage: ccp %s " % name)
+    version = (REPOSITORY / "VERSION").read_text().strip()
+    assert command(name, "--version")[:] == ("ccp %s\n" % version, "", 0)
+
+
+@pytest.mark.parametrize("name", COMMANDS)
+def test_an_output_that_nobody_reads(name: str) -> None:
+    reading, writing = os.pipe()
+    os.close(reading)
+    env = {**os.environ, "PYTHONPATH": str(REPOSITORY / "src")}
+    words = [sys.executable, "-m", "ccp_tools", name, "--help"]
+    ran = subprocess.run(words, stdout=writing, stderr=subprocess.PIPE, env=env, stdin=subprocess.DEVNULL)
+    os.close(writing)
+    assert (ran.returncode, ran.stderr) == (141, b"")
+
+
+def test_closed_streams() -> None:
+    env = {**os.environ, "PYTHONPATH": str(REPOSITORY / "src")}
+    for closed in ("<&-", ">&-", "2>&-", "<&- >&- 2>&-"):
+        words = ["bash", "-c", '"$0" -m ccp_tools table %s' % closed, sys.executable]
+        ran = subprocess.run(words, stdin=subprocess.DEVNULL, capture_output=True, env=env, timeout=60)
+        assert b"Traceback" not in ran.stderr and ran.returncode == 1, ran.stderr
+
+
+def test_interpreters_that_the_package_is_for() -> None:
+    """Each Python that is installed, from 3.9 on, reads all modules that need no others."""
+    versions = Path.home() / ".pyenv" / "versions"
+    found = sorted(versions.glob("3.*/bin/python3")) if versions.is_dir() else []
+    tried = 0
+    for python in [Path("/usr/bin/python3"), *found]:
+        ask = [str(python), "-c", "import sys; sys.exit(sys.version_info < (3, 9))"]
+        if not python.exists() or subprocess.run(ask).returncode:
+            continue
+        env = {**os.environ, "PYTHONPATH": str(REPOSITORY / "src"), "PYTHONDONTWRITEBYTECODE": "1"}
+        for command_ in COMMANDS.values():
+            if not command_.modules:
+                words = [str(python), "-m", "ccp_tools", command_.name, "--help"]
+                ran = subprocess.run(words, capture_output=True, env=env)
+                assert ran.returncode == 0, (python, command_.name, ran.stderr)
+        tried += 1
+    assert tried
