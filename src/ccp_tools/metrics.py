@@ -216,16 +216,13 @@ def delays_of(frame: pd.DataFrame, delay_us: int) -> Dict[str, float]:
     return made
 
 
-def mean_windows(timeline: Timeline, window: Window = Window()) -> Dict[int, float]:
-    """The mean window of each flow, in bytes: a report's window counts from the report before, within the window of time."""
-    made = {}
-    for number, reports in timeline.reports.groupby("flow", sort=False):
-        ends = reports["now"].to_numpy().astype(np.int64)
-        edges = np.clip(np.concatenate([[0], ends]), window.begin_us, window.until_us)
-        spans = np.diff(edges)
-        if spans.sum():
-            made[number] = float((reports["cwnd"].to_numpy().astype(float) * spans).sum() / spans.sum())
-    return made
+def mean_window(reports: pd.DataFrame, window: Window = Window()) -> float | None:
+    """The mean window over the reports of a flow, in bytes: a report's window counts from the report before, within the
+    window of time. None where there is no report in it."""
+    ends = reports["now"].to_numpy().astype(np.int64)
+    spans = np.diff(np.clip(np.concatenate([[0], ends]), window.begin_us, window.until_us))
+    total = spans.sum()
+    return float((reports["cwnd"].to_numpy().astype(float) * spans).sum() / total) if total else None
 
 
 def figures_of_table(table: texts.Table, scenario: Mapping[str, Any], link: Link) -> List[Dict[str, Any]]:
@@ -273,27 +270,29 @@ def figures(
     table: texts.Table | None = None,
     timeline: Timeline | None = None,
     acks: Iterable[AckFrame] | None = None,
-    window: Window = Window(),
+    window: Window | Mapping[str, Window] = Window(),
     answered: Iterable[str] = (),
 ) -> pd.DataFrame:
     """The figures of each case of a scenario, a row a case: the scenario's columns, METRICS and `doubts`.
 
-    Each source is optional; without `acks` a window of time is a CcpError. `answered` names senders whose agent is meant
+    Each source is optional; without `acks` a window of time is a CcpError. `window` is that of all cases, or maps a
+    trace to that of its cases. `answered` names senders whose agent is meant
     to change their program. Units are in the columns' names, shares are from 0 to 1. Errors: CcpError, where the sources
     are of different runs or of another scenario."""
     names, own = columns_of(scenario)
     cases, link = scenario["cases"], Link(scenario)
-    if window != Window() and acks is None:
+    windows = [window if isinstance(window, Window) else window[case["trace"]] for case in cases]
+    if any(one != Window() for one in windows) and acks is None:
         raise CcpError("a window of time needs the acknowledgements, as `acks` prints them")
     found: List[Dict[str, Any]] = [{} for _ in cases]
     if table:
         check_cases(scenario, [row["case"] for row in table.rows], "the table")
         found = figures_of_table(table, scenario, link)
-    rows: List[Any] = table.rows if table else [None] * len(cases)
+    rows: List[Any] = list(table.rows) if table else [None for _ in cases]
     if acks is not None:
-        add_acks(found, cases, rows, acks, link, window)
+        add_acks(found, cases, rows, acks, link, windows)
     if timeline is not None:
-        add_timeline(found, cases, rows, timeline, window)
+        add_timeline(found, cases, rows, timeline, windows)
     for made, case, row in zip(found, cases, rows):
         made["doubts"] = "; ".join(doubts_of(case, made, row, timeline, own_of(case)["sender"] in answered))
     made_frame = pd.DataFrame(
@@ -308,7 +307,7 @@ def add_acks(
     rows: Sequence[Any],
     acks: Iterable[AckFrame],
     link: Link,
-    window: Window,
+    windows: Sequence[Window],
 ) -> None:
     """Adds the figures of acknowledgements, where their counts are those of the table."""
     names = []
@@ -317,7 +316,7 @@ def add_acks(
         if at < len(cases) and flow.case == cases[at]["name"]:
             if rows[at]:
                 texts.same_run(flow.case, "acknowledgements", whole_counts(flow.frame), rows[at])
-            found[at].update(figures_of_acks(cases[at], flow.frame, link, window))
+            found[at].update(figures_of_acks(cases[at], flow.frame, link, windows[at]))
     check_cases({"cases": cases}, names, "the acknowledgements")
 
 
@@ -326,14 +325,15 @@ def add_timeline(
 ) -> None:
     """Adds the figures of a timeline, where its counts are those of the table."""
     check_cases({"cases": cases}, list(timeline.ends["case"]), "the timeline")
-    windows = mean_windows(timeline, window)
+    reports = dict(list(timeline.reports.groupby("flow", sort=False)))
     for at, end in enumerate(timeline.ends.itertuples()):
         counts = {name: int(getattr(end, name)) for name in "acks reports held faults epochs cwnd".split()}
         counts["tail"] = counts["acks"] - int(end.first)
         if rows[at]:
             texts.same_run(end.case, "timeline", counts, rows[at])
         found[at].update({name: counts[name] for name in ("reports", "held", "faults", "epochs")})
-        found[at]["window_mean_bytes"] = windows.get(end.flow)
+        if end.flow in reports:
+            found[at]["window_mean_bytes"] = mean_window(reports[end.flow], windows[at])
 
 
 def check_cases(scenario: Mapping[str, Any], names: Sequence[str], what: str) -> None:
