@@ -321,7 +321,11 @@ def add_acks(
 
 
 def add_timeline(
-    found: List[Dict[str, Any]], cases: Sequence[Any], rows: Sequence[Any], timeline: Timeline, window: Window
+    found: List[Dict[str, Any]],
+    cases: Sequence[Any],
+    rows: Sequence[Any],
+    timeline: Timeline,
+    windows: Sequence[Window],
 ) -> None:
     """Adds the figures of a timeline, where its counts are those of the table."""
     check_cases({"cases": cases}, list(timeline.ends["case"]), "the timeline")

@@ -595,6 +595,21 @@ def scatter_axes(panel: Axes, across: Sequence[float], upwards: Sequence[float],
         panel.invert_xaxis()
 
 
+def overall(frame: pd.DataFrame, look: Look = Look()) -> List[Figure]:
+    """One scatter over all traces, of figures that are comparable between them: utilization over the 95th percentile of the
+    queueing delay, the mean of each sender with an ellipse of one standard deviation over the traces."""
+    names = ["queueing_p95_ms", "utilization"]
+    made = []
+    for sender, cases in frame.groupby("sender", sort=False):
+        over = cases.groupby("trace", sort=False)[names].mean()
+        values = {
+            name: (metrics.plain(float(over[name].mean())), None, metrics.plain(float(over[name].std())))
+            for name in names
+        }
+        made.append(Point("mean over %d traces" % len(over), str(sender), values, over))
+    return scatter(made, *names, look)
+
+
 # ---- round-trip times
 
 

@@ -138,7 +138,9 @@ def aggregated(times: List[int], count: int, path: str) -> List[int]:
     they are, so that the rate stays the same."""
     turns = count // math.gcd(len(times), count)
     if turns * times[-1] > LIMITS["trace_ms"]:
-        raise CcpError("%s: --aggregate %d needs %d turns of the trace, which are too long: --cut MS" % (path, count, turns))
+        raise CcpError(
+            "%s: --aggregate %d needs %d turns of the trace, which are too long: --cut MS" % (path, count, turns)
+        )
     whole_times = [turn * times[-1] + time for turn in range(turns) for time in times]
     return whole_times[count - 1 :: count]
 

@@ -53,12 +53,16 @@ class Runner:
     progress: Progress
     rows: List[Dict[str, Any]] = field(default_factory=list)
 
-    def run(self, scenario: Mapping[str, Any], windows: Mapping[str, Window], answered: Iterable[str], shown: Iterable[int]) -> Results:
+    def run(
+        self, scenario: Mapping[str, Any], windows: Mapping[str, Window], answered: Iterable[str], shown: Iterable[int]
+    ) -> Results:
         """Runs all cases. `windows` maps a trace to its window of time, `answered` are the senders whose agent is meant to
         change their program, and `shown` the numbers of the cases that are plotted."""
         parts, wanted = parts_of(dict(scenario)), set(shown)
         found, results = [], Results(pd.DataFrame(), parts=len(parts))
-        with (self.folder / "timeline.txt").open("w") as timeline_file, (self.folder / "acks.txt").open("w") as acks_file:
+        with (self.folder / "timeline.txt").open("w") as timeline_file, (self.folder / "acks.txt").open(
+            "w"
+        ) as acks_file:
             for number, (first, part) in enumerate(parts, 1):
                 self.name = "part %d of %d: " % (number, len(parts)) if len(parts) > 1 else ""
                 table = self.table(part)
@@ -92,7 +96,9 @@ class Runner:
         self.progress.say(self.name + "audit of the timeline")
         given = scenario_text(part).rstrip("\n") + "\n---\n" + text
         if len(given) > LIMITS["audit_bytes"]:
-            raise CcpError("audit: the timeline has %d bytes, and one run has at most %d" % (len(given), LIMITS["audit_bytes"]))
+            raise CcpError(
+                "audit: the timeline has %d bytes, and one run has at most %d" % (len(given), LIMITS["audit_bytes"])
+            )
         said = program.run("audit", given, program=self.program).output.strip()
         if said != "yes":
             raise CcpError("audit: the timeline isn't one of the scenario: %s, counted from case %d" % (said, first))
