@@ -40,9 +40,9 @@ GREATEST = 2**64 - 1
 
 @dataclass(frozen=True)
 class AckFrame:
-    """The acknowledgements of a flow: its number from 0, its case, its agent, and a frame with a row for each. The frame's
-    columns are PRIMITIVES: bytes, packets, microseconds (`now`, `rtt_sample_us`) and bytes a second (the rates) as uint64,
-    `was_timeout` as bool. A primitive that isn't printed is 0."""
+    """The acknowledgements of a flow: its number from 0, its case, its agent, and a frame with a row for each. The
+    frame's columns are PRIMITIVES: bytes, packets, microseconds (`now`, `rtt_sample_us`) and bytes a second (the
+    rates) as uint64, `was_timeout` as bool. A primitive that isn't printed is 0."""
 
     number: int
     case: str
@@ -132,7 +132,7 @@ def pieces_of(source: Source) -> Iterator[bytes]:
             break
         whole, end, rest = (rest + piece).rpartition(b"\n")
         if end:
-            yield whole.replace(b"\r\n", b"\n") + b"\n"
+            yield with_end(whole + end)
     yield with_end(rest)
 
 
@@ -221,8 +221,8 @@ class Timeline:
     `field_NAME` for each field of a program, in the program's own unit.
     `faults`: `flow`, `case`, `agent`, `epoch`, `ack` (its number from 0), `kind`, `place` (line:column).
     `epochs`: `flow`, `case`, `agent`, `number`, `program`, `at` (acknowledgements before it), `cwnd` (bytes).
-    `ends`: `flow`, `case`, `agent`, `acks`, `reports`, `held`, `faults`, `epochs`, `first` (acknowledgements from it on are
-    in no report), `stopped`, `cwnd` (bytes), `rate` (bytes a second)."""
+    `ends`: `flow`, `case`, `agent`, `acks`, `reports`, `held`, `faults`, `epochs`, `first` (acknowledgements from it
+    on are in no report), `stopped`, `cwnd` (bytes), `rate` (bytes a second)."""
 
     reports: pd.DataFrame
     faults: pd.DataFrame
@@ -279,14 +279,14 @@ def report_row(report: Any) -> Dict[str, Any]:
 
 
 def read_table(source: Source) -> pd.DataFrame:
-    """The rows of a table of `campaign` or `shared`, with the columns COLUMNS: `case` and `agent` are texts, `acked`, `peak`
-    and `cwnd` bytes, `now` microseconds, the rest counts. Errors: BadText."""
+    """The rows of a table of `campaign` or `shared`, with the columns COLUMNS: `case` and `agent` are texts, `acked`,
+    `peak` and `cwnd` bytes, `now` microseconds, the rest counts. Errors: BadText."""
     return pd.DataFrame(texts.read_table(text_of(source)).rows, columns=COLUMNS)
 
 
 def read_shared(source: Source) -> Tuple[pd.DataFrame, Dict[str, int]]:
-    """The rows of a table of `shared`, as read_table has them, and the numbers of its line `link`: `rounds`, and the packets
-    `sent`, `acked`, `lost` and `inflight` of all flows. Errors: BadText, also for a table without that line."""
+    """The rows of a table of `shared`, as read_table has them, and the numbers of its line `link`: `rounds`, and the
+    packets `sent`, `acked`, `lost` and `inflight` of all flows. Errors: BadText, also for a table without that line."""
     table = texts.read_table(text_of(source))
     if table.link is None:
         raise BadText("a table of `shared` has a line `link`, and this one hasn't")
@@ -310,8 +310,8 @@ def run_campaign(scenario: Given, **options: Any) -> pd.DataFrame:
 
 
 def acks(scenario: Given, **options: Any) -> pd.DataFrame:
-    """The acknowledgements that `acks` prints of a scenario (a dict or a text), as read_acks has them. Options are those
-    of program.run. Errors: CcpError."""
+    """The acknowledgements that `acks` prints of a scenario (a dict or a text), as read_acks has them. Options are
+    those of program.run. Errors: CcpError."""
     return read_acks(program.run("acks", scenario, **program.with_workers("acks", options)).output)
 
 

@@ -7,9 +7,9 @@
     ccp metrics scenario.json table.txt acks.txt > metrics.csv
     ccp metrics scenario.json table.txt acks.txt --by trace,sender,queue
 
-A TEXT is what `campaign`, `shared`, `timeline` or `acks` printed of the scenario; it is recognized by its beginning, and
-`-` is standard input. There is a line for each case, with the scenario's own columns first, then the figures. A figure
-whose text isn't given is empty. Texts of different runs, or of another scenario, are errors.
+A TEXT is what `campaign`, `shared`, `timeline` or `acks` printed of the scenario; it is recognized by its beginning,
+and `-` is standard input. There is a line for each case, with the scenario's own columns first, then the figures. A
+figure whose text isn't given is empty. Texts of different runs, or of another scenario, are errors.
 
 --until S computes every figure of the acknowledgements over the first S seconds of virtual time, so that cases of
 different lengths are comparable; --from S leaves out what came before, as slow start. --by groups cases by columns: for
@@ -57,8 +57,8 @@ SAME_SPAN = 0.01
 
 @dataclass(frozen=True)
 class Figure:
-    """How a figure is shown: its name with the unit, the factor from METRICS to this unit, its decimals, and whether more
-    of it is better."""
+    """How a figure is shown: its name with the unit, the factor from METRICS to this unit, its decimals, and whether
+    more of it is better."""
 
     label: str
     factor: float = 1
@@ -277,8 +277,8 @@ def figures(
 
     Each source is optional; without `acks` a window of time is a CcpError. `window` is that of all cases, or maps a
     trace to that of its cases. `answered` names senders whose agent is meant
-    to change their program. Units are in the columns' names, shares are from 0 to 1. Errors: CcpError, where the sources
-    are of different runs or of another scenario."""
+    to change their program. Units are in the columns' names, shares are from 0 to 1. Errors: CcpError, where the
+    sources are of different runs or of another scenario."""
     names, own = columns_of(scenario)
     cases, link = scenario["cases"], Link(scenario)
     windows = [window if isinstance(window, Window) else window[case["trace"]] for case in cases]
@@ -402,9 +402,9 @@ def spans_differ(frame: pd.DataFrame) -> bool:
 
 
 def groups(frame: pd.DataFrame, by: Sequence[str], names: Sequence[str] = tuple(METRICS)) -> pd.DataFrame:
-    """The cases of `figures` with equal values in the columns `by`, a row a group: `n` is the number of its cases, and of
-    each figure `NAME_n` the number of cases that have it, `NAME_mean`, `NAME_sd` their standard deviation (divisor n - 1),
-    and `NAME_ci95` half of the 95 % interval of the mean by Student's t. The order is that of the cases."""
+    """The cases of `figures` with equal values in the columns `by`, a row a group: `n` is the number of its cases, and
+    of each figure `NAME_n` the number of cases that have it, `NAME_mean`, `NAME_sd` their standard deviation (divisor
+    n - 1), and `NAME_ci95` half of the 95 % interval of the mean by Student's t. The order is that of the cases."""
     from scipy.special import stdtrit  # the quantile of Student's t; scipy.stats takes far longer to import
 
     grouped = frame.groupby(list(by), sort=False, dropna=False)

@@ -17,8 +17,8 @@ a decade, and two strokes mark an axis that doesn't begin at 0.
 marks where packets were lost, where there was a timeout, and where the agent changed the program. With the
 acknowledgements its values are means of windows of time, else those of the reports. A line breaks where reports were
 held, and in a gap of the trace. `delay` shows the round-trip time of each packet over time beside its distribution,
-`cdf` the distributions alone, and `table` throughput, loss and queueing delay of a table. `shares` runs `ccp shared` and
-shows each flow's share of the bottleneck over time and Jain's index.
+`cdf` the distributions alone, and `table` throughput, loss and queueing delay of a table. `shares` runs `ccp shared`
+and shows each flow's share of the bottleneck over time and Jain's index.
 
 --size column (252 points wide) and --size page (516) are for papers, with small text; WxH is in points, 72 to an inch.
 A file has at most 8 senders and 32 bars; what doesn't fit comes on further pages: of a PDF in the same file, else in
@@ -90,7 +90,8 @@ VARIED: Dict[str, Any] = {
 
 @dataclass(frozen=True)
 class Look:
-    """How a plot looks: a size of SIZES or width and height in points, a title, a font's family, and its size in points."""
+    """How a plot looks: a size of SIZES or width and height in points, a title, a font's family, and its size in
+    points."""
 
     size: str | Tuple[int, int] = "screen"
     title: str = ""
@@ -154,8 +155,8 @@ def chunks(items: Sequence[Item], size: int) -> List[Sequence[Item]]:
 
 @dataclass
 class Sheet:
-    """A page of panels in rows and columns, with one legend above them. `heights` are those of the rows and `gap` is the
-    space between them, in lines of text; `below` is the space under the last row. `legend` has a handle a name."""
+    """A page of panels in rows and columns, with one legend above them. `heights` are those of the rows and `gap` is
+    the space between them, in lines of text; `below` is the space under the last row. `legend` has a handle a name."""
 
     look: Look
     legend: Dict[str, Any]
@@ -269,7 +270,7 @@ def log_axis(axis: Any) -> None:
 
 def plain_axis(axis: Any) -> None:
     """About five numbers without zeros at their end."""
-    axis.set_major_locator(MaxNLocator(6))
+    axis.set_major_locator(MaxNLocator(6, steps=[1, 2, 2.5, 5, 10]))
     axis.set_major_formatter(FuncFormatter(lambda value, _: "%g" % round(value, 9)))
 
 
@@ -317,7 +318,8 @@ def varying_of(rows: Sequence[Mapping[str, Any]]) -> List[str]:
 
 
 def labels_of(rows: Sequence[Mapping[str, Any]]) -> List[str]:
-    """The label of each case's group. Where two cases of one sender and one seed would have the same, their names are added."""
+    """The label of each case's group. Where two cases of one sender and one seed would have the same, their names are
+    added."""
     varying = varying_of(rows)
     labels = [label_of(row, varying) for row in rows]
     places = [(label, row["sender"], str(row.get("seed"))) for label, row in zip(labels, rows)]
@@ -332,12 +334,13 @@ def labels_of(rows: Sequence[Mapping[str, Any]]) -> List[str]:
 
 @dataclass
 class Point:
-    """A bar, or a point of a scatter: its group, its sender, and of each metric the mean, half of its 95 % interval, and its
-    standard deviation (None where there is one case). `cases` are the figures of its cases, where they are known."""
+    """A bar, or a point of a scatter: its group, its sender, and of each metric the mean, half of its 95 % interval,
+    and its standard deviation (None where there is one case). `cases` are the figures of its cases, where they are
+    known."""
 
     group: str
     sender: str
-    values: Dict[str, Tuple[float | None, float | None, float | None]]
+    values: Mapping[str, Tuple[float | None, float | None, float | None]]
     cases: pd.DataFrame | None = None
 
 
@@ -351,9 +354,13 @@ def points_of(frame: pd.DataFrame, is_grouped: bool = False) -> List[Point]:
     known = [name for name in SHOWN if name in named]
     made = []
     for (group, sender), cases in named.groupby(["group", "sender"], sort=False):
+        if len(cases) == 1:
+            row = rows[frame.index.get_loc(cases.index[0])]
+            made.append(Point(group, sender, {name: (row[name], None, None) for name in known}))
+            continue
         grouped = metrics.rows_of(metrics.groups(cases, ["group", "sender"], known))[0]
         values = {name: (grouped[name + "_mean"], grouped[name + "_ci95"], grouped[name + "_sd"]) for name in known}
-        made.append(Point(group, sender, values, cases if len(cases) > 1 else None))
+        made.append(Point(group, sender, values, cases))
     return made
 
 
@@ -417,7 +424,9 @@ def bar_page(
     points: Sequence[Point], groups: Sequence[str], senders: List[str], names: Sequence[str], look: Look
 ) -> Figure:
     """A page of bars. Each bar is 1 wide, those of a group are side by side, and a gap comes between groups."""
-    gap, at, places, ticks = max(0.7, len(senders) / 4), 0.0, [], []
+    places: List[Tuple[Point, float]] = []
+    ticks: List[float] = []
+    gap, at = max(0.7, len(senders) / 4), 0.0
     for group in groups:
         inside = [point for sender in senders for point in points if (point.group, point.sender) == (group, sender)]
         places += [(point, at + number + 0.5) for number, point in enumerate(inside)]
@@ -555,8 +564,8 @@ def scatter_panel(panel: Axes, points: Sequence[Point], senders: List[str], x: s
 
 
 def ellipse_of(point: Point, x: str, y: str) -> Any:
-    """The outline of one standard deviation around a mean: with the covariance where the cases are known, else along the
-    axes. None where there is one case."""
+    """The outline of one standard deviation around a mean: with the covariance where the cases are known, else along
+    the axes. None where there is one case."""
     mean = np.array([point.values[name][0] for name in (x, y)], dtype=float)
     if point.cases is not None:
         both = point.cases[[x, y]].dropna().to_numpy(dtype=float)
@@ -596,8 +605,8 @@ def scatter_axes(panel: Axes, across: Sequence[float], upwards: Sequence[float],
 
 
 def overall(frame: pd.DataFrame, look: Look = Look()) -> List[Figure]:
-    """One scatter over all traces, of figures that are comparable between them: utilization over the 95th percentile of the
-    queueing delay, the mean of each sender with an ellipse of one standard deviation over the traces."""
+    """One scatter over all traces, of figures that are comparable between them: utilization over the 95th percentile
+    of the queueing delay, the mean of each sender with an ellipse of one standard deviation over the traces."""
     names = ["queueing_p95_ms", "utilization"]
     made = []
     for sender, cases in frame.groupby("sender", sort=False):
@@ -607,7 +616,7 @@ def overall(frame: pd.DataFrame, look: Look = Look()) -> List[Figure]:
             for name in names
         }
         made.append(Point("mean over %d traces" % len(over), str(sender), values, over))
-    return scatter(made, *names, look)
+    return scatter(made, names[0], names[1], look)
 
 
 # ---- round-trip times
@@ -766,8 +775,8 @@ def window_us(end_us: float) -> int:
 
 @dataclass
 class Series:
-    """What is plotted of a flow: times in seconds and values of throughput, window and round-trip time, with nan where a
-    line breaks, whether a value holds up to its time ("pre") or from it on ("post"), and times of marks by kind."""
+    """What is plotted of a flow: times in seconds and values of throughput, window and round-trip time, with nan where
+    a line breaks, whether a value holds up to its time ("pre") or from it on ("post"), and times of marks by kind."""
 
     name: str
     mss: int
@@ -779,8 +788,9 @@ class Series:
 
 
 def breaks_in(reports: pd.DataFrame) -> np.ndarray:
-    """For each report whether lines break before it: where reports were held, so that a span doesn't begin at the end of the
-    one before, and where a report took more than two round trips, and far more than the one before and than most."""
+    """For each report whether lines break before it: where reports were held, so that a span doesn't begin at the end
+    of the one before, and where a report took more than two round trips, and far more than the one before and than
+    most."""
     now, first = reports["now"].to_numpy(dtype=float), reports["first"].to_numpy()
     held = first != np.concatenate([[0], reports["end"].to_numpy()[:-1]])
     trips = column(reports, "rtt")
@@ -812,7 +822,7 @@ def window_line(reports: pd.DataFrame, first: float, unit: float, ack_times: np.
     at, or where no acknowledgements are given at that of the report."""
     now = reports["now"].to_numpy(dtype=float) / 1e6
     times, values = [0.0], [first / unit]
-    breaks = breaks_in(reports) if len(reports) else []
+    breaks = breaks_in(reports) if len(reports) else np.zeros(0, bool)
     replies = reports["reply_window"].to_numpy(dtype=float) if "reply_window" in reports else np.full(len(now), np.nan)
     for at, (time, cwnd, answered, reply) in enumerate(zip(now, reports["cwnd"], reports["answered"], replies)):
         if breaks[at]:
@@ -827,7 +837,8 @@ def window_line(reports: pd.DataFrame, first: float, unit: float, ack_times: np.
 
 
 def rates_of_reports(reports: pd.DataFrame, breaks: np.ndarray) -> Tuple[Any, Any]:
-    """The throughput of each report's span, in Mbit/s. Of a report after held ones it isn't known when its span began."""
+    """The throughput of each report's span, in Mbit/s. Of a report after held ones it isn't known when its span
+    began."""
     now, got = reports["now"].to_numpy(dtype=float), column(reports, "acked", "delivered")
     spans = np.diff(np.concatenate([[0], now]))
     rates = np.where(breaks | (spans <= 0), np.nan, 8 * got / np.where(spans > 0, spans, 1))
@@ -954,7 +965,8 @@ LABELS = {"throughput": "throughput [Mbit/s]", "trip": "round-trip time [ms]"}
 
 
 def draw_series(panel: Axes, found: List[Series], name: str, end: float) -> None:
-    """A step line for each series with about ten marks on it, each series' at other times, so that none hides another's."""
+    """A step line for each series with about ten marks on it, each series' at other times, so that none hides
+    another's."""
     seen = []
     for at, series in enumerate(found):
         times, values = getattr(series, name)
@@ -1005,8 +1017,8 @@ def draw_marks(panel: Axes, found: List[Series], rows: List[str]) -> None:
 
 
 def shared_runs(scenario: Mapping[str, Any], steps: int, path: str | None) -> Tuple[List[float], np.ndarray]:
-    """The times at which the bottleneck is looked at, in seconds, and the bytes acknowledged up to each, a column a flow. A
-    run of fewer rounds is the beginning of one of more."""
+    """The times at which the bottleneck is looked at, in seconds, and the bytes acknowledged up to each, a column a
+    flow. A run of fewer rounds is the beginning of one of more."""
     shared, times, rows = scenario["shared"], [0.0], [[0] * len(scenario["cases"])]
     for step in range(1, steps + 1):
         upto = max(1, shared["rounds"] * step // steps)
@@ -1024,8 +1036,8 @@ def shared_runs(scenario: Mapping[str, Any], steps: int, path: str | None) -> Tu
 def shares(
     names: Sequence[str], times: Sequence[float], acked: np.ndarray, look: Look = Look(), capacity: Any = None
 ) -> Figure:
-    """Each flow's throughput and share of a bottleneck over time, and Jain's index. `times` are in seconds, and `acked` has
-    the bytes acknowledged up to each of them, a column a flow. `capacity` are Mbit/s between the times."""
+    """Each flow's throughput and share of a bottleneck over time, and Jain's index. `times` are in seconds, and
+    `acked` has the bytes acknowledged up to each of them, a column a flow. `capacity` are Mbit/s between the times."""
     legend: Dict[str, Any] = {name: line_key(at) for at, name in enumerate(names)}
     if capacity is not None:
         legend["link"] = link_key()
@@ -1095,9 +1107,17 @@ def save(pages: Sequence[Figure], path: str | Path, look: Look = Look()) -> List
                     else {"Software": "ccp"}
                 )
                 page.savefig(name, dpi=144, metadata=metadata)
+                if kind == ".svg":
+                    add_fonts(name)
             return names
     except OSError as error:
         raise CcpError("%s: %s" % (path, reason_of(error))) from None
+
+
+def add_fonts(path: Path) -> None:
+    """Gives an SVG's text a list of fonts, so that it looks alike where the first one isn't installed."""
+    text = path.read_text(encoding="utf-8")
+    path.write_text(re.sub(r"(font: [^;\"]*'[^']+')(?=[;\"])", r"\1, Verdana, sans-serif", text), encoding="utf-8")
 
 
 def drawn(look: Look, work: Callable[[], List[Figure]]) -> List[Figure]:
@@ -1255,7 +1275,8 @@ def check_numbers(wanted: Sequence[int] | None, known: Sequence[int], path: str)
 def pages_of_trips(arguments: argparse.Namespace) -> List[Figure]:
     scenario = read_scenario(arguments.scenario) if arguments.scenario else None
     found = named_flows(acks_of(arguments.text, arguments.flows), scenario)
-    return (delay if arguments.what == "delay" else cdf)(found, look_of(arguments))
+    look = look_of(arguments)
+    return delay(found, look) if arguments.what == "delay" else cdf(found, look)
 
 
 def timeline_in(path: str) -> Timeline:
@@ -1297,7 +1318,8 @@ def note(text: str) -> None:
 
 
 def delays_of_reports(timeline: Timeline) -> Dict[str, float]:
-    """The queueing delay of each case: the mean of the field rtt over its reports less the least one, in milliseconds."""
+    """The queueing delay of each case: the mean of the field rtt over its reports less the least one, in
+    milliseconds."""
     made = {}
     for case, reports in timeline.reports.groupby("case", sort=False):
         trips = column(reports, "rtt")

@@ -21,7 +21,8 @@ LEAST_US = 15_000_000
 
 @dataclass(frozen=True)
 class Queue:
-    """How long a queue is: packets, a multiple of the link's bandwidth-delay product, or milliseconds at its mean rate."""
+    """How long a queue is: packets, a multiple of the link's bandwidth-delay product, or milliseconds at its mean
+    rate."""
 
     packets: int = 0
     products: float = 0
@@ -134,8 +135,8 @@ def longest_us(link: Trace, timeout_us: int) -> int:
 
 
 def aggregated(times: List[int], count: int, path: str) -> List[int]:
-    """The times at which `count` chances are over. A trace whose chances aren't a multiple of the count is repeated until
-    they are, so that the rate stays the same."""
+    """The times at which `count` chances are over. A trace whose chances aren't a multiple of the count is repeated
+    until they are, so that the rate stays the same."""
     turns = count // math.gcd(len(times), count)
     if turns * times[-1] > LIMITS["trace_ms"]:
         raise CcpError(

@@ -21,7 +21,7 @@ from ..scenario_files import Scenario, scenario_text
 from ..senders import senders
 from . import report
 from .cases import Comparison, Queue, queues, queues_ms
-from .runs import Progress, Results, Runner, joined, shown_cases
+from .runs import Progress, Results, Runner, shown_cases
 
 # members of Comparison that are kept in compare.toml as they stand, by the names of their options
 KEPT = ("mss", "acks", "slots", "lag", "cut", "aggregate", "title")
@@ -87,7 +87,7 @@ def read_toml(path: str) -> Dict[str, Any]:
         import tomllib
     except ImportError:
         try:
-            import tomli as tomllib  # type: ignore[no-redef]
+            import tomli as tomllib
         except ImportError:
             raise CcpError("%s: it needs Python 3.11 or the package python3-tomli" % path) from None
     try:
@@ -332,8 +332,8 @@ def size_text(grid: Comparison, scenario: Scenario, path: Path) -> str:
 
 
 def estimated_s(scenario: Scenario, path: Path, acks: int) -> float:
-    """About how many seconds a comparison takes: one case is run, and each acknowledgement is printed, counted twice more,
-    checked once without other workers, and read."""
+    """About how many seconds a comparison takes: one case is run, and each acknowledgement is printed, counted twice
+    more, checked once without other workers, and read."""
     case = scenario["cases"][0]
     seen = []
     for count in (0, min(TRIAL_ACKS, case["acks"])):

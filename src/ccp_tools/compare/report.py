@@ -5,14 +5,17 @@ from __future__ import annotations
 import argparse
 import base64
 import hashlib
+import multiprocessing
 import platform
 import subprocess
 from dataclasses import dataclass
+from functools import partial
 from pathlib import Path
-from typing import Any, Dict, List, Mapping, Sequence, Tuple
+from typing import Any, Callable, Dict, List, Mapping, Sequence, Tuple
 
 import matplotlib
 import pandas as pd
+from matplotlib.figure import Figure
 
 from .. import metrics, plots, program
 from ..metrics import SHOWN, Window, counted
@@ -23,7 +26,10 @@ from ..traces import Trace, trace_times
 from .runs import Results, joined, shown_cases
 
 # the columns of the report's table, and those of the printed one with their short names
-TABLE = "throughput_mbps utilization loss_rate queueing_mean_ms queueing_p50_ms queueing_p95_ms queueing_p99_ms power span_s".split()
+TABLE = (
+    "throughput_mbps utilization loss_rate queueing_mean_ms queueing_p50_ms queueing_p95_ms queueing_p99_ms "
+    "power span_s"
+).split()
 SHORT = {
     "throughput_mbps": "Mbit/s",
     "utilization": "used%",
@@ -63,6 +69,43 @@ class Plot:
     files: Tuple[Path, ...]
 
 
+# a plot that is still to be drawn: its name, heading, what it shows, and what makes its pages
+Job = Tuple[str, str, str, Callable[[], List[Figure]]]
+
+
+def drawn_all(jobs: Sequence[Job], folder: Path, look: Look) -> List[Plot]:
+    """Draws plots, one process each as far as there are processors. matplotlib uses one of them alone."""
+
+    def work(at: int) -> List[Path]:
+        name, _, _, make = jobs[at]
+        pages = plots.drawn(look, make)
+        if not pages:
+            return []
+        plots.save(pages, folder / (name + ".pdf"), look)
+        return plots.save(pages, folder / (name + ".svg"), look)
+
+    files = in_processes(work, len(jobs))
+    return [Plot(name, head, what, tuple(some)) for (name, head, what, _), some in zip(jobs, files) if some]
+
+
+def in_processes(work: Callable[[int], Any], count: int) -> List[Any]:
+    """What work gives for 0 to count - 1, in forked processes where the system has them."""
+    processors = min(program.processors(), count)
+    if processors < 2 or "fork" not in multiprocessing.get_all_start_methods():
+        return [work(at) for at in range(count)]
+    FORKED["work"] = work
+    with multiprocessing.get_context("fork").Pool(processors) as pool:
+        return pool.map(forked, range(count), chunksize=1)
+
+
+# what a forked process runs; a function within another one can't be sent to it
+FORKED: Dict[str, Callable[[int], Any]] = {}
+
+
+def forked(at: int) -> Any:
+    return FORKED["work"](at)
+
+
 def draw(scenario: Scenario, results: Results, folder: Path, look: Look, windows: Mapping[str, Window]) -> List[Plot]:
     """Draws the plots of a comparison, each as SVG and PDF."""
     frame, shown = results.figures, shown_cases(scenario)
@@ -73,14 +116,10 @@ def draw(scenario: Scenario, results: Results, folder: Path, look: Look, windows
     named = plots.named_flows(
         [results.acks[number] for some in shown.values() for number in some if number in results.acks], scenario
     )
-    made = []
+    jobs: List[Job] = []
 
-    def add(name: str, head: str, what: str, work: Any) -> None:
-        pages = plots.drawn(look, work)
-        if pages:
-            files = plots.save(pages, folder / (name + ".svg"), look)
-            plots.save(pages, folder / (name + ".pdf"), look)
-            made.append(Plot(name, head, what, tuple(files)))
+    def add(name: str, head: str, what: str, work: Callable[[], List[Figure]]) -> None:
+        jobs.append((name, head, what, work))
 
     bars = ["throughput_mbps", "loss_rate", "queueing_p95_ms"]
     what = "Throughput with the link's capacity in grey, lost packets, and the 95th percentile of the queueing delay%s."
@@ -88,10 +127,16 @@ def draw(scenario: Scenario, results: Results, folder: Path, look: Look, windows
     what = "Up and right is better: the delay axis is reversed%s.%s Two strokes mark an axis that doesn't begin at 0."
     add("scatter", "Throughput over delay", what % (over, sigma), lambda: plots.scatter(points, look=look))
     if frame["trace"].nunique() > 1:
-        what = "The mean of each sender over all traces: the share of the capacity that it used, and its delay. An ellipse is one standard deviation over the traces."
+        what = (
+            "The mean of each sender over all traces: the share of the capacity that it used, and its delay. An ellipse "
+            "is one standard deviation over the traces."
+        )
         add("overall", "All traces together", what, lambda: plots.overall(frame, look))
     until = {name: window.until_us and window.until_us / 1e6 for name, window in windows.items()}
-    what = "Each packet's round-trip time when it was acknowledged, and beside it the share of packets up to each time. The axis is logarithmic where a few packets waited far longer than the rest."
+    what = (
+        "Each packet's round-trip time when it was acknowledged, and beside it the share of packets up to each time. "
+        "The axis is logarithmic where a few packets waited far longer than the rest."
+    )
     add(
         "delay",
         "Round-trip times",
@@ -100,15 +145,16 @@ def draw(scenario: Scenario, results: Results, folder: Path, look: Look, windows
     )
     timeline = joined(results.timelines)
     for trace, numbers in shown.items():
-        what = "Throughput with the link's capacity in grey, window, round-trip time, and what happened when: losses, marks, timeouts, and changes of program by the agent."
         acks = {number: results.acks[number] for number in numbers if number in results.acks}
-        add(
-            "flows-" + trace,
-            "Over time: " + trace,
-            what,
-            lambda: plots.flows(timeline, numbers, scenario, acks, look, until[trace]),
-        )
-    return made
+        work = partial(plots.flows, timeline, numbers, scenario, acks, look, until[trace])
+        add("flows-" + trace, "Over time: " + trace, OVER_TIME, work)
+    return drawn_all(jobs, folder, look)
+
+
+OVER_TIME = (
+    "Throughput with the link's capacity in grey, window, round-trip time, and what happened when: losses, marks, "
+    "timeouts, and changes of program by the agent."
+)
 
 
 # ---- the table

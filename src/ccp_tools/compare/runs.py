@@ -22,8 +22,8 @@ from .cases import parts_of
 
 @dataclass
 class Results:
-    """What the runs of a comparison gave: a row of figures a case, what is plotted of the cases that are shown, and in how
-    many parts they ran. Flows have the numbers of their cases."""
+    """What the runs of a comparison gave: a row of figures a case, what is plotted of the cases that are shown, and in
+    how many parts they ran. Flows have the numbers of their cases."""
 
     figures: pd.DataFrame
     timelines: List[Timeline] = field(default_factory=list)
@@ -56,8 +56,8 @@ class Runner:
     def run(
         self, scenario: Mapping[str, Any], windows: Mapping[str, Window], answered: Iterable[str], shown: Iterable[int]
     ) -> Results:
-        """Runs all cases. `windows` maps a trace to its window of time, `answered` are the senders whose agent is meant to
-        change their program, and `shown` the numbers of the cases that are plotted."""
+        """Runs all cases. `windows` maps a trace to its window of time, `answered` are the senders whose agent is
+        meant to change their program, and `shown` the numbers of the cases that are plotted."""
         parts, wanted = parts_of(dict(scenario)), set(shown)
         found, results = [], Results(pd.DataFrame(), parts=len(parts))
         with (self.folder / "timeline.txt").open("w") as timeline_file, (self.folder / "acks.txt").open(
