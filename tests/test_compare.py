@@ -141,7 +141,7 @@ def test_spans_that_differ_are_refused(tmp_path, program):
 
 
 def test_no_sender_ends_before_the_span():
-    """More acknowledgements than chances and timeouts up to the span; the most that a case has are enough for the rest."""
+    """A case has more acknowledgements than there are chances and timeouts up to the end of the span."""
     for path in TRACES:
         link = Trace(read_trace(path))
         for span in (1000, 400_000, 15_000_000):

@@ -46,17 +46,15 @@ end acks=6 reports=1 held=0 faults=0 tail=6..6 stopped=no cwnd=6000 rate=0 x=0
     FIELDS % (1000, 0, 40000, 0),
     FIELDS % (0, 0, 40000, 0),
 )
-ACKS = (
-    "flow 0 case=a agent=reno\n%slost_pkts_sample=2 now=600000 rtt_sample_us=55000 was_timeout=1\nflow 1 case=b agent=cubic\n%s"
-    % (
-        "".join(
-            "bytes_acked=1000 packets_acked=1 now=%d rtt_sample_us=%d\n" % (30000 + 10000 * k, 30000 + 5000 * k)
-            for k in range(6)
-        ),
-        "".join(
-            "bytes_acked=1000 packets_acked=1 now=%d rtt_sample_us=20000\n" % (30000 + 10000 * k) for k in range(6)
-        ),
-    )
+PACKET = "bytes_acked=1000 packets_acked=1 now=%d rtt_sample_us=%d\n"
+ACKS = "".join(
+    [
+        "flow 0 case=a agent=reno\n",
+        *(PACKET % (30000 + 10000 * at, 30000 + 5000 * at) for at in range(6)),
+        "lost_pkts_sample=2 now=600000 rtt_sample_us=55000 was_timeout=1\n",
+        "flow 1 case=b agent=cubic\n",
+        *(PACKET % (30000 + 10000 * at, 20000) for at in range(6)),
+    ]
 )
 METRICS = {
     "cases": [
