@@ -195,3 +195,17 @@ def test_more_senders_than_a_plot_shows():
     rows = [{**METRICS["cases"][0], "sender": "s%d" % at, "case": "c%d" % at} for at in range(9)]
     with pytest.raises(CcpError, match="9 senders"):
         plots.bars(plots.points_of(pd.DataFrame(rows)), ["throughput_mbps"])
+
+
+def test_no_step_reaches_over_a_break():
+    """The value before a break ends at its own time, in the line of windows and in that of round-trip times."""
+    import numpy as np
+
+    times, values = plots.with_breaks(np.array([1.0, 2.0, 9.0]), np.array([5, 6, 7]), np.array([False, False, True]))
+    assert list(times) == [1, 2, 2, 9] and list(values[:2]) == [5, 6] and np.isnan(values[2]) and values[3] == 7
+    from ccp_tools import frames
+
+    reports = frames.read_timeline(FLOWS).reports
+    times, values = plots.window_line(reports[reports["flow"] == 0], 4000, 1000, np.zeros(0))
+    place = int(np.flatnonzero(np.isnan(values))[0])
+    assert times[place] == times[place - 1] == 0.1 and times[place + 1] == 0.6

@@ -812,9 +812,10 @@ def column(reports: pd.DataFrame, *names: str) -> np.ndarray:
 
 
 def with_breaks(times: np.ndarray, values: np.ndarray, breaks: np.ndarray) -> Tuple[np.ndarray, np.ndarray]:
-    """Times and values with nan before each break."""
+    """Times and values with nan at the time before each break, so that no step reaches over it."""
     places = np.flatnonzero(breaks)
-    return np.insert(times, places, times[places]), np.insert(values.astype(float), places, np.nan)
+    before = times[np.maximum(places - 1, 0)]
+    return np.insert(times, places, before), np.insert(values.astype(float), places, np.nan)
 
 
 def window_line(reports: pd.DataFrame, first: float, unit: float, ack_times: np.ndarray) -> Tuple[Any, Any]:
@@ -826,7 +827,7 @@ def window_line(reports: pd.DataFrame, first: float, unit: float, ack_times: np.
     replies = reports["reply_window"].to_numpy(dtype=float) if "reply_window" in reports else np.full(len(now), np.nan)
     for at, (time, cwnd, answered, reply) in enumerate(zip(now, reports["cwnd"], reports["answered"], replies)):
         if breaks[at]:
-            times.append(time)
+            times.append(times[-1])
             values.append(np.nan)
         times.append(time)
         values.append(cwnd / unit)
@@ -1236,6 +1237,7 @@ def add_arguments(parser: argparse.ArgumentParser) -> None:
 
 
 def add_flows(parser: argparse.ArgumentParser) -> None:
+    parser.add_argument("--until", type=metrics.seconds, metavar="S", help="only the first S seconds (all)")
     parser.add_argument(
         "--flows", type=list_of(whole(0, 10**6)), metavar="LIST", help="numbers of flows, as 0,2 (all)"
     )
@@ -1276,6 +1278,12 @@ def pages_of_trips(arguments: argparse.Namespace) -> List[Figure]:
     scenario = read_scenario(arguments.scenario) if arguments.scenario else None
     found = named_flows(acks_of(arguments.text, arguments.flows), scenario)
     look = look_of(arguments)
+    until_s = arguments.until and arguments.until / 1e6
+    if until_s:
+        for one in found:
+            kept = one.flow.frame[one.flow.frame["now"] <= arguments.until]
+            one.flow = AckFrame(one.flow.number, one.flow.case, one.flow.agent, kept)
+        found = [one for one in found if (one.flow.frame["packets_acked"] > 0).any()]
     return delay(found, look) if arguments.what == "delay" else cdf(found, look)
 
 
@@ -1297,7 +1305,7 @@ def pages_of_flows(arguments: argparse.Namespace) -> List[Figure]:
     acks = {flow.number: flow for flow in acks_of(arguments.acks_file, wanted)} if arguments.acks_file else None
     if not arguments.quiet:
         print_notes(timeline, wanted, acks)
-    return flows(timeline, wanted, scenario, acks, look_of(arguments))
+    return flows(timeline, wanted, scenario, acks, look_of(arguments), arguments.until and arguments.until / 1e6)
 
 
 def print_notes(timeline: Timeline, numbers: Sequence[int], acks: Any) -> None:

@@ -19,7 +19,7 @@ from ..metrics import Window
 from ..scenario import add_grid, check_longest, grid_of, seconds
 from ..scenario_files import Scenario, scenario_text
 from ..senders import senders
-from . import report
+from . import report, shared
 from .cases import Comparison, Queue, queues, queues_ms
 from .runs import Progress, Results, Runner, shown_cases
 
@@ -70,6 +70,7 @@ def add_arguments(parser: argparse.ArgumentParser) -> None:
     add(
         "--aggregate", type=whole(1, 45), metavar="K", help="K chances are one packet of K segments, for fast links (1)"
     )
+    add("--shared", action="store_true", help="also runs all senders together over each trace, and shows their shares")
     add("--different-spans", action="store_true", help="accepts cases that are measured over different spans")
     add("--out", metavar="DIR", help="the folder that gets all files")
     add("--dry-run", action="store_true", help="only says how large it is and about how long it takes")
@@ -155,7 +156,7 @@ def toml_text(arguments: argparse.Namespace, grid: Comparison) -> str:
     for name, us in (("seconds", arguments.seconds), ("from", arguments.begin)):
         values[name] = us and us / 1e6
     values["timeout-ms"] = arguments.timeout_ms and arguments.timeout_ms / 1000
-    values["different-spans"] = arguments.different_spans
+    values["different-spans"], values["shared"] = arguments.different_spans, arguments.shared
     size = arguments.size
     values["size"] = None if size == "screen" else size if isinstance(size, str) else "%dx%d" % size
     lines = [
@@ -293,9 +294,12 @@ def finish(
         metrics.print_doubts(frame)
     if metrics.spans_differ(frame) and not arguments.different_spans:
         raise CcpError(different_spans(frame))
+    sharings = shared.run_all(scenario, windows, folder, progress, path) if arguments.shared else []
+    if sharings:
+        write(folder, "shared.json", shared.json_text(sharings))
     progress.say("plots")
-    made = report.draw(scenario, results, folder, plots.look_of(arguments), windows)
-    page = report.Page(arguments, scenario, frame, by, groups, results, made, windows, path)
+    made = report.draw(scenario, results, folder, plots.look_of(arguments), windows, sharings)
+    page = report.Page(arguments, scenario, frame, by, groups, results, made, windows, path, sharings)
     write(folder, "report.html", page.html((folder / "compare.toml").read_text()))
     progress.say("the report: %s" % (folder / "report.html"))
     sys.stdout.write(page.summary())

@@ -23,6 +23,7 @@ from ..plots import Look
 from ..scenario_files import Scenario
 from ..senders import resolved
 from ..traces import Trace, trace_times
+from . import shared
 from .runs import Results, joined, shown_cases
 
 # the columns of the report's table, and those of the printed one with their short names
@@ -106,7 +107,14 @@ def forked(at: int) -> Any:
     return FORKED["work"](at)
 
 
-def draw(scenario: Scenario, results: Results, folder: Path, look: Look, windows: Mapping[str, Window]) -> List[Plot]:
+def draw(
+    scenario: Scenario,
+    results: Results,
+    folder: Path,
+    look: Look,
+    windows: Mapping[str, Window],
+    sharings: Sequence[shared.Sharing] = (),
+) -> List[Plot]:
     """Draws the plots of a comparison, each as SVG and PDF."""
     frame, shown = results.figures, shown_cases(scenario)
     look = Look(look.size, "", look.font, look.font_points)
@@ -128,8 +136,8 @@ def draw(scenario: Scenario, results: Results, folder: Path, look: Look, windows
     add("scatter", "Throughput over delay", what % (over, sigma), lambda: plots.scatter(points, look=look))
     if frame["trace"].nunique() > 1:
         what = (
-            "The mean of each sender over all traces: the share of the capacity that it used, and its delay. An ellipse "
-            "is one standard deviation over the traces."
+            "The mean of each sender over all traces: the share of the capacity that it used, and its delay. An "
+            "ellipse is one standard deviation over the traces."
         )
         add("overall", "All traces together", what, lambda: plots.overall(frame, look))
     until = {name: window.until_us and window.until_us / 1e6 for name, window in windows.items()}
@@ -148,6 +156,7 @@ def draw(scenario: Scenario, results: Results, folder: Path, look: Look, windows
         acks = {number: results.acks[number] for number in numbers if number in results.acks}
         work = partial(plots.flows, timeline, numbers, scenario, acks, look, until[trace])
         add("flows-" + trace, "Over time: " + trace, OVER_TIME, work)
+    jobs += shared.jobs_of(sharings, scenario, look)
     return drawn_all(jobs, folder, look)
 
 
@@ -270,6 +279,7 @@ class Page:
     plots: List[Plot]
     windows: Mapping[str, Window]
     path: Path
+    sharings: Sequence[shared.Sharing] = ()
 
     @property
     def rows(self) -> List[Row]:
@@ -302,6 +312,9 @@ class Page:
             is_seeded=self.groups is not None,
             overall=overall_rows(self.frame) if traces > 1 else [],
             overall_heads=[SHOWN[name].label for name in OVERALL],
+            shared=shared.table_of(self.sharings),
+            shared_heads=shared.HEADS,
+            fair=shared.FAIR,
             counts=metrics.rows_of(self.frame[["case", *COUNTED, "doubts"]]),
             count_heads=COUNTED,
             plots=[{"plot": one, "images": [image_of(path) for path in one.files]} for one in self.plots],
