@@ -234,3 +234,32 @@ def test_the_page_in_a_browser(compared, tmp_path, width):
     assert ":CONSOLE" not in seen.errors, [line for line in seen.errors.split("\n") if "CONSOLE" in line]
     printed = ran([*common, "--no-pdf-header-footer", "--print-to-pdf=%s" % (tmp_path / "page.pdf"), page.as_uri()])
     assert (tmp_path / "page.pdf").read_bytes().startswith(b"%PDF"), printed.errors
+
+
+# ---- senders that share a link
+
+
+def test_when_flows_converge():
+    import numpy as np
+
+    from ccp_tools.compare.shared import converged
+
+    got = np.array([[9, 1], [5, 5], [8, 2], [6, 5], [5, 5]])
+    acked = np.vstack([[0, 0], got.cumsum(axis=0)])
+    assert converged([0, 1, 2, 3, 4, 5], acked) == 3
+    assert converged([0, 1, 2, 3], acked[:4]) is None
+
+
+@pytest.mark.slow
+def test_senders_together(program, tmp_path):
+    words = [TRACES[0], "--senders", "reno,cubic", "--seconds", "0.2", "--queue", "20", "--shared", "--quiet"]
+    made = command("compare", *words, "--out", tmp_path / "out")
+    assert made.status == 0, made.errors
+    shared = json.loads((tmp_path / "out" / "shared.json").read_text())["shared"][0]
+    assert shared["senders"] == ["reno", "cubic"] and len(shared["times_s"]) == len(shared["acked_bytes"]) > 20
+    page = (tmp_path / "out" / "report.html").read_text()
+    assert "Sharing one link" in page and (tmp_path / "out" / "shared-fixed.pdf").exists()
+    table = (tmp_path / "out" / "shared-fixed.txt").read_text()
+    for number, name in enumerate(shared["senders"]):
+        row = next(line.split(" ") for line in table.split("\n") if line.startswith("fixed-%s " % name))
+        assert int(row[9]) == shared["acked_bytes"][-1][number]
