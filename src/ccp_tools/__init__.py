@@ -15,7 +15,7 @@ from typing import TYPE_CHECKING, Any
 
 if TYPE_CHECKING:
     from .errors import BadText, CcpError, Failed, NoProgram
-    from .frames import acks, metrics, run_campaign, timeline
+    from .frames import acks, figures, run_campaign, timeline
     from .scenario_files import read_scenario, write_scenario
 
 __all__ = [
@@ -24,7 +24,7 @@ __all__ = [
     "Failed",
     "NoProgram",
     "acks",
-    "metrics",
+    "figures",
     "read_scenario",
     "run_campaign",
     "timeline",
@@ -34,7 +34,7 @@ __all__ = [
 # the module of each name, which is imported when the name is first used: pandas takes half a second
 MODULES = {
     **dict.fromkeys(["BadText", "CcpError", "Failed", "NoProgram"], "errors"),
-    **dict.fromkeys(["acks", "metrics", "run_campaign", "timeline"], "frames"),
+    **dict.fromkeys(["acks", "figures", "run_campaign", "timeline"], "frames"),
     **dict.fromkeys(["read_scenario", "write_scenario"], "scenario_files"),
 }
 

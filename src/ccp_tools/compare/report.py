@@ -1,0 +1,443 @@
+"""The plots, the printed table and the report of a comparison."""
+
+from __future__ import annotations
+
+import argparse
+import base64
+import hashlib
+import multiprocessing
+import platform
+import subprocess
+from dataclasses import dataclass
+from functools import partial
+from pathlib import Path
+from typing import Any, Callable, Dict, List, Mapping, Sequence, Tuple
+
+import matplotlib
+import pandas as pd
+from matplotlib.figure import Figure
+
+from .. import metrics, plots, program
+from ..metrics import SHOWN, Window, counted
+from ..plots import Look
+from ..scenario_files import Scenario
+from ..senders import resolved
+from ..traces import Trace, trace_times
+from . import shared
+from .runs import Results, joined, shown_cases
+
+# the columns of the report's table, and those of the printed one with their short names
+TABLE = (
+    "throughput_mbps utilization loss_rate queueing_mean_ms queueing_p50_ms queueing_p95_ms queueing_p99_ms "
+    "power span_s"
+).split()
+SHORT = {
+    "throughput_mbps": "Mbit/s",
+    "utilization": "used%",
+    "loss_rate": "lost%",
+    "queueing_mean_ms": "wait",
+    "queueing_p95_ms": "p95",
+    "queueing_p99_ms": "p99",
+    "power": "power",
+    "span_s": "span",
+}
+COUNTED = "packets lost timeouts reports held faults epochs".split()
+# figures that are comparable between traces
+OVERALL = ("utilization", "loss_rate", "queueing_p95_ms")
+VARYING = ("queue", "delay_ms", "loss", "mark")
+
+
+def varying_of(frame: pd.DataFrame) -> List[str]:
+    """The columns of the grid in which the cases of one trace differ."""
+    found = []
+    for name in VARYING:
+        counts = frame.assign(value=frame[name].astype(str)).groupby("trace", sort=False)["value"].nunique()
+        if (counts > 1).any():
+            found.append(name)
+    return found
+
+
+# ---- plots
+
+
+@dataclass(frozen=True)
+class Plot:
+    """A plot of the report: the name of its files without ending, its heading, what it shows, and its SVG files."""
+
+    name: str
+    head: str
+    what: str
+    files: Tuple[Path, ...]
+
+
+# a plot that is still to be drawn: its name, heading, what it shows, and what makes its pages
+Job = Tuple[str, str, str, Callable[[], List[Figure]]]
+
+
+def drawn_all(jobs: Sequence[Job], folder: Path, look: Look) -> List[Plot]:
+    """Draws plots, one process each as far as there are processors. matplotlib uses one of them alone."""
+
+    def work(at: int) -> List[Path]:
+        name, _, _, make = jobs[at]
+        pages = plots.drawn(look, make)
+        if not pages:
+            return []
+        plots.save(pages, folder / (name + ".pdf"), look)
+        return plots.save(pages, folder / (name + ".svg"), look)
+
+    files = in_processes(work, len(jobs))
+    return [Plot(name, head, what, tuple(some)) for (name, head, what, _), some in zip(jobs, files) if some]
+
+
+def in_processes(work: Callable[[int], Any], count: int) -> List[Any]:
+    """What work gives for 0 to count - 1, in forked processes where the system has them."""
+    processors = min(program.processors(), count)
+    if processors < 2 or "fork" not in multiprocessing.get_all_start_methods():
+        return [work(at) for at in range(count)]
+    FORKED["work"] = work
+    with multiprocessing.get_context("fork").Pool(processors) as pool:
+        return pool.map(forked, range(count), chunksize=1)
+
+
+# what a forked process runs; a function within another one can't be sent to it
+FORKED: Dict[str, Callable[[int], Any]] = {}
+
+
+def forked(at: int) -> Any:
+    return FORKED["work"](at)
+
+
+def draw(
+    scenario: Scenario,
+    results: Results,
+    folder: Path,
+    look: Look,
+    windows: Mapping[str, Window],
+    sharings: Sequence[shared.Sharing] = (),
+) -> List[Plot]:
+    """Draws the plots of a comparison, each as SVG and PDF."""
+    frame, shown = results.figures, shown_cases(scenario)
+    look = Look(look.size, "", look.font, look.font_points)
+    points = plots.points_of(frame)
+    over = ", means over the seeds with 95 % intervals" if frame["seed"].nunique() > 1 else ""
+    sigma = " An ellipse is one standard deviation over the seeds." if over else ""
+    named = plots.named_flows(
+        [results.acks[number] for some in shown.values() for number in some if number in results.acks], scenario
+    )
+    jobs: List[Job] = []
+
+    def add(name: str, head: str, what: str, work: Callable[[], List[Figure]]) -> None:
+        jobs.append((name, head, what, work))
+
+    bars = ["throughput_mbps", "loss_rate", "queueing_p95_ms"]
+    what = "Throughput with the link's capacity in grey, lost packets, and the 95th percentile of the queueing delay%s."
+    add("bars", "Throughput, loss and delay", what % over, lambda: plots.bars(points, bars, look))
+    what = "Up and right is better: the delay axis is reversed%s.%s Two strokes mark an axis that doesn't begin at 0."
+    add("scatter", "Throughput over delay", what % (over, sigma), lambda: plots.scatter(points, look=look))
+    if frame["trace"].nunique() > 1:
+        what = (
+            "The mean of each sender over all traces: the share of the capacity that it used, and its delay. An "
+            "ellipse is one standard deviation over the traces."
+        )
+        add("overall", "All traces together", what, lambda: plots.overall(frame, look))
+    until = {name: window.until_us and window.until_us / 1e6 for name, window in windows.items()}
+    what = (
+        "Each packet's round-trip time when it was acknowledged, and beside it the share of packets up to each time. "
+        "The axis is logarithmic where a few packets waited far longer than the rest."
+    )
+    add(
+        "delay",
+        "Round-trip times",
+        what,
+        lambda: plots.delay(named, look, max((value or 0 for value in until.values()), default=0) or None),
+    )
+    timeline = joined(results.timelines)
+    for trace, numbers in shown.items():
+        acks = {number: results.acks[number] for number in numbers if number in results.acks}
+        work = partial(plots.flows, timeline, numbers, scenario, acks, look, until[trace])
+        add("flows-" + trace, "Over time: " + trace, OVER_TIME, work)
+    jobs += shared.jobs_of(sharings, scenario, look)
+    return drawn_all(jobs, folder, look)
+
+
+OVER_TIME = (
+    "Throughput with the link's capacity in grey, window, round-trip time, and what happened when: losses, marks, "
+    "timeouts, and changes of program by the agent."
+)
+
+
+# ---- the table
+
+
+@dataclass(frozen=True)
+class Row:
+    """A row of the table: what it is of, its figures with half of their intervals, and why its figures are doubtful."""
+
+    by: Dict[str, Any]
+    values: Dict[str, Tuple[float | None, float | None]]
+    doubts: str
+
+
+def rows_of(frame: pd.DataFrame, by: Sequence[str], groups: pd.DataFrame | None) -> List[Row]:
+    """The rows of the table: one a case, or over seeds one a group."""
+    if groups is None:
+        return [
+            Row(named(row, by), {name: (row[name], None) for name in TABLE}, row["doubts"] or "")
+            for row in metrics.rows_of(frame)
+        ]
+    key = [frame[name].astype(str) for name in by]
+    doubts = frame["doubts"].groupby(key, sort=False).agg(lambda some: "; ".join(dict.fromkeys(filter(None, some))))
+    made = []
+    for row in metrics.rows_of(groups):
+        place = tuple(str(row[name]) if row[name] is not None else str(frame[name].iloc[0]) for name in by)
+        values = {name: (row[name + "_mean"], row[name + "_ci95"]) for name in TABLE}
+        made.append(Row(named(row, by), values, doubts.get(place, "")))
+    return made
+
+
+def named(row: Mapping[str, Any], by: Sequence[str]) -> Dict[str, Any]:
+    return {name: "none" if row.get(name) is None else row[name] for name in by}
+
+
+def text_of(name: str, value: Tuple[float | None, float | None]) -> str:
+    """A figure as it is shown, with half of its interval."""
+    mean, half = value
+    if mean is None:
+        return "none"
+    shown = SHOWN[name]
+    text = "%.*f" % (shown.decimals, mean * shown.factor)
+    return text if half is None else "%s ±%.*f" % (text, shown.decimals, half * shown.factor)
+
+
+def summary(rows: Sequence[Row], by: Sequence[str]) -> str:
+    """The table as columns of text. A doubtful row has `!` after its sender, and its reason below."""
+    lines = [[*by, *SHORT.values()]]
+    for row in rows:
+        names = [str(row.by[name]) + (" !" if name == "sender" and row.doubts else "") for name in by]
+        lines.append([*names, *(text_of(name, row.values[name]) for name in SHORT)])
+    widths = [max(len(line[at]) for line in lines) for at in range(len(lines[0]))]
+    made = []
+    for line in lines:
+        cells = [
+            text.ljust(width) if at < len(by) else text.rjust(width)
+            for at, (text, width) in enumerate(zip(line, widths))
+        ]
+        made.append(" ".join(cells).rstrip())
+    made += ["! %s: %s" % (place_of(row), row.doubts) for row in rows if row.doubts]
+    return "\n".join(made) + "\n"
+
+
+def place_of(row: Row) -> str:
+    """What a row is of, in words: `bbr on lte, queue 20`."""
+    rest = [plots.said_of(name, value) for name, value in row.by.items() if name not in ("trace", "sender")]
+    return ", ".join(["%s on %s" % (row.by["sender"], row.by["trace"]), *rest])
+
+
+def best_of(rows: Sequence[Row], row: Row, name: str) -> bool:
+    """Whether a figure is the best of its trace and settings, as it is shown; one of a doubtful row never is."""
+    shown = SHOWN[name]
+    if row.doubts or name == "span_s":
+        return False
+
+    def rounded(one: Row) -> float | None:
+        mean = one.values[name][0]
+        return None if mean is None else round(mean * shown.factor, shown.decimals)
+
+    rest = {key: value for key, value in row.by.items() if key != "sender"}
+    group = [one for one in rows if not one.doubts and all(one.by[key] == value for key, value in rest.items())]
+    known = [value for value in map(rounded, group) if value is not None]
+    mine = rounded(row)
+    return mine is not None and min(known) < max(known) and mine == (max(known) if shown.is_more else min(known))
+
+
+def overall_rows(frame: pd.DataFrame) -> List[Dict[str, Any]]:
+    """The means of each sender over all traces, of the figures that are comparable between traces."""
+    made = []
+    for sender, cases in frame.groupby("sender", sort=False):
+        means = cases.groupby("trace", sort=False)[list(OVERALL)].mean().mean()
+        values = {name: (None if means[name] != means[name] else float(means[name]), None) for name in OVERALL}
+        doubtful = bool((cases["doubts"] != "").any())
+        made.append(
+            {"sender": sender, "doubtful": doubtful, "cells": [text_of(name, values[name]) for name in OVERALL]}
+        )
+    return made
+
+
+# ---- the page
+
+
+@dataclass
+class Page:
+    """What the report shows."""
+
+    arguments: argparse.Namespace
+    scenario: Scenario
+    frame: pd.DataFrame
+    by: List[str]
+    groups: pd.DataFrame | None
+    results: Results
+    plots: List[Plot]
+    windows: Mapping[str, Window]
+    path: Path
+    sharings: Sequence[shared.Sharing] = ()
+
+    @property
+    def rows(self) -> List[Row]:
+        return rows_of(self.frame, self.by, self.groups)
+
+    def summary(self) -> str:
+        return summary(self.rows, self.by)
+
+    def html(self, options: str) -> str:
+        """The report, one file that needs no other."""
+        from jinja2 import Environment, FileSystemLoader, StrictUndefined
+
+        folder = Path(__file__).parent
+        environment = Environment(
+            loader=FileSystemLoader(folder), autoescape=True, undefined=StrictUndefined, trim_blocks=True
+        )
+        rows = self.rows
+        cases, traces = len(self.frame), self.frame["trace"].nunique()
+        senders = counted(self.frame["sender"].nunique(), "sender")
+        return environment.get_template("report.html").render(
+            title=self.arguments.title or "Senders over recorded links",
+            what="%s over %s, %s. Each case is one flow over its own virtual link."
+            % (senders, counted(traces, "trace"), counted(cases, "case")),
+            identity=program.identity(self.path),
+            warnings=self.warnings(rows),
+            conditions=self.conditions(),
+            heads=[*self.by, *(SHOWN[name].label for name in TABLE)],
+            rows=[self.cells(rows, row) for row in rows],
+            has_doubts=any(row.doubts for row in rows),
+            is_seeded=self.groups is not None,
+            overall=overall_rows(self.frame) if traces > 1 else [],
+            overall_heads=[SHOWN[name].label for name in OVERALL],
+            shared=shared.table_of(self.sharings),
+            shared_heads=shared.HEADS,
+            fair=shared.FAIR,
+            counts=metrics.rows_of(self.frame[["case", *COUNTED, "doubts"]]),
+            count_heads=COUNTED,
+            plots=[{"plot": one, "images": [image_of(path) for path in one.files]} for one in self.plots],
+            traces=self.traces(),
+            senders=self.senders(),
+            parts=self.results.parts,
+            options=options,
+            versions=versions(self.path),
+        )
+
+    def warnings(self, rows: Sequence[Row]) -> List[str]:
+        """What a reader has to know before the figures."""
+        found = ["%s: %s" % (place_of(row), row.doubts) for row in rows if row.doubts]
+        if metrics.spans_differ(self.frame):
+            found.append("Senders are measured over different spans, so their figures aren't comparable as they stand.")
+        return found
+
+    def conditions(self) -> List[Tuple[str, str]]:
+        """The conditions of the comparison, each with its values."""
+        shown = [
+            ("queue [packets]", "queue", 1),
+            ("delay from chance to acknowledgement [ms]", "delay_ms", 1),
+            ("losses beside those of the queue", "loss", 1),
+            ("seeds", "seed", 1),
+            ("marks from [waiting packets]", "mark", 1),
+            ("segment [bytes]", "mss", 1),
+            ("timeout [ms]", "timeout_ms", 1),
+            ("answer's lag [acknowledgements]", "lag", 1),
+        ]
+        made = [(head, values_of(self.frame[name])) for head, name, _ in shown]
+        spans = []
+        for name, window in self.windows.items():
+            measured = self.frame[self.frame["trace"] == name]["span_s"]
+            begin = "%g to " % (window.begin_us / 1e6) if window.begin_us else ""
+            whole = window.until_us / 1e6 if window.until_us is not None else None
+            length = "%g" % whole if whole is not None else "%.3g to %.3g" % (measured.min(), measured.max())
+            spans.append("%s: %s%s" % (name, begin, length))
+        return [("measured [s of virtual time]", ", ".join(spans)), *made]
+
+    def cells(self, rows: Sequence[Row], row: Row) -> Dict[str, Any]:
+        cells = [
+            {"text": text_of(name, row.values[name]), "value": row.values[name][0], "best": best_of(rows, row, name)}
+            for name in TABLE
+        ]
+        return {"names": list(row.by.items()), "cells": cells, "doubts": row.doubts}
+
+    def traces(self) -> List[Dict[str, Any]]:
+        made = []
+        for name, text in self.scenario["traces"].items():
+            trace = Trace(trace_times(text, name))
+            gaps = [b - a for a, b in zip(trace.times, trace.times[1:])] + [trace.times[0]]
+            rate = 12 * len(trace.times) / trace.times[-1]
+            made.append(
+                {"name": name, "rate": rate, "length": trace.times[-1] / 1000, "gap": max(gaps), "sha256": sha256(text)}
+            )
+        return made
+
+    def senders(self) -> List[Dict[str, Any]]:
+        """The senders, with the texts of their programs."""
+        found, texts = resolved(self.arguments.senders, self.arguments.portus)
+        made = []
+        for one, word in zip(found, self.arguments.senders.words):
+            programs = [{"name": name, "text": texts[name], "sha256": sha256(texts[name])} for name in one.programs()]
+            made.append({"label": one.label, "how": how_of(one, self.frame), "word": word, "programs": programs})
+        return made
+
+
+def how_of(one: Any, frame: pd.DataFrame) -> str:
+    """How a sender runs, by what its cases did."""
+    if not one.programs():
+        return "the built-in agent with its built-in programs"
+    where = (
+        "in both phases"
+        if one.slow == one.avoid
+        else "in congestion avoidance"
+        if not one.slow
+        else "in each phase"
+        if one.avoid
+        else "in slow start"
+    )
+    epochs = frame[frame["sender"] == one.label]["epochs"].max()
+    answered = "no agent changed it" if epochs == 1 else "the agent %s changed it" % one.agent
+    return "a program of its own %s; %s" % (where, answered)
+
+
+def values_of(column: pd.Series) -> str:
+    """The different values of a column as text."""
+    values = [metrics.plain(value) for value in column.drop_duplicates()]
+    return ", ".join(
+        "none" if value is None else "%g" % value if isinstance(value, (int, float)) else str(value) for value in values
+    )
+
+
+def sha256(text: str) -> str:
+    return hashlib.sha256(text.encode("utf-8", "surrogateescape")).hexdigest()
+
+
+def image_of(path: Path) -> str:
+    """A file as the address of an image."""
+    return "data:image/svg+xml;base64," + base64.b64encode(path.read_bytes()).decode()
+
+
+def revision() -> str:
+    """The revision of the checkout, or unknown."""
+    top = program.checkout()
+    if top is None:
+        return "unknown"
+    try:
+        ran = subprocess.run(
+            ["git", "-C", str(top), "rev-parse", "HEAD"], stdout=subprocess.PIPE, stderr=subprocess.DEVNULL, text=True
+        )
+    except OSError:
+        return "unknown"
+    return ran.stdout.strip() or "unknown"
+
+
+def versions(path: Path) -> List[Tuple[str, str]]:
+    known = program.identity(path)
+    return [
+        ("ccp, version", known.version),
+        ("ccp, proved", "yes" if known.is_proved else "no"),
+        ("ccp, SHA-256 of the program", known.sha256),
+        ("ccp, revision of the sources", revision()),
+        ("matplotlib, pandas", "%s, %s" % (matplotlib.__version__, pd.__version__)),
+        ("Python", platform.python_version()),
+    ]

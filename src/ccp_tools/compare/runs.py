@@ -1,0 +1,158 @@
+"""Runs the cases of a comparison, checks the timeline, and computes the figures. Every text is read once."""
+
+from __future__ import annotations
+
+import re
+import sys
+import time
+from dataclasses import dataclass, field
+from pathlib import Path
+from typing import Any, Dict, Iterable, Iterator, List, Mapping, TextIO
+
+import pandas as pd
+
+from .. import metrics, program, texts
+from ..errors import CcpError
+from ..frames import AckFrame, Timeline, acks_in, timeline_of
+from ..metrics import Window
+from ..scenario_files import scenario_text
+from ..tables import COLUMNS, LIMITS, SUMS
+from .cases import parts_of
+
+
+@dataclass
+class Results:
+    """What the runs of a comparison gave: a row of figures a case, what is plotted of the cases that are shown, and in
+    how many parts they ran. Flows have the numbers of their cases."""
+
+    figures: pd.DataFrame
+    timelines: List[Timeline] = field(default_factory=list)
+    acks: Dict[int, AckFrame] = field(default_factory=dict)
+    parts: int = 1
+
+
+@dataclass
+class Progress:
+    """Lines of progress on standard error."""
+
+    is_quiet: bool
+    begun: float = field(default_factory=time.monotonic)
+
+    def say(self, what: str) -> None:
+        if not self.is_quiet:
+            elapsed = time.monotonic() - self.begun
+            print("ccp compare: %.0f s: %s" % (elapsed, what), file=sys.stderr, flush=True)
+
+
+@dataclass
+class Runner:
+    """Runs parts of a scenario, and writes what they print to a folder as if it were one run."""
+
+    program: Path
+    folder: Path
+    progress: Progress
+    rows: List[Dict[str, Any]] = field(default_factory=list)
+
+    def run(
+        self, scenario: Mapping[str, Any], windows: Mapping[str, Window], answered: Iterable[str], shown: Iterable[int]
+    ) -> Results:
+        """Runs all cases. `windows` maps a trace to its window of time, `answered` are the senders whose agent is
+        meant to change their program, and `shown` the numbers of the cases that are plotted."""
+        parts, wanted = parts_of(dict(scenario)), set(shown)
+        found, results = [], Results(pd.DataFrame(), parts=len(parts))
+        with (self.folder / "timeline.txt").open("w") as timeline_file, (self.folder / "acks.txt").open(
+            "w"
+        ) as acks_file:
+            for number, (first, part) in enumerate(parts, 1):
+                self.name = "part %d of %d: " % (number, len(parts)) if len(parts) > 1 else ""
+                table = self.table(part)
+                timeline = self.timeline(part, first, timeline_file)
+                text = self.printed("acks", part, first, acks_file)
+                self.progress.say(self.name + "figures")
+                flows = kept(acks_in(text), first, wanted, results.acks)
+                found.append(
+                    metrics.figures(part, table=table, timeline=timeline, acks=flows, window=windows, answered=answered)
+                )
+                results.timelines.append(timeline)
+        results.figures = pd.concat(found, ignore_index=True)
+        (self.folder / "table.txt").write_text(table_text(self.rows))
+        return results
+
+    def output(self, mode: str, part: Mapping[str, Any]) -> str:
+        """What a mode prints of a part."""
+        count = len(part["cases"])
+        acks = sum(case["acks"] for case in part["cases"])
+        self.progress.say("%s%s of %s, %d acknowledgements" % (self.name, mode, metrics.counted(count, "case"), acks))
+        return program.run(mode, part, program=self.program, workers=program.processors()).output
+
+    def table(self, part: Mapping[str, Any]) -> texts.Table:
+        made = texts.read_table(self.output("campaign", part))
+        self.rows += made.rows
+        return made
+
+    def timeline(self, part: Mapping[str, Any], first: int, file: TextIO) -> Timeline:
+        """The timeline of a part, which `audit` has to say yes to."""
+        text = self.output("timeline", part)
+        self.progress.say(self.name + "audit of the timeline")
+        given = scenario_text(part).rstrip("\n") + "\n---\n" + text
+        if len(given) > LIMITS["audit_bytes"]:
+            raise CcpError(
+                "audit: the timeline has %d bytes, and one run has at most %d" % (len(given), LIMITS["audit_bytes"])
+            )
+        said = program.run("audit", given, program=self.program).output.strip()
+        if said != "yes":
+            raise CcpError("audit: the timeline isn't one of the scenario: %s, counted from case %d" % (said, first))
+        file.write(renumbered(text, first))
+        made = timeline_of(texts.flows_in(text))
+        for frame in (made.reports, made.faults, made.epochs, made.ends):
+            frame["flow"] += first
+        return made
+
+    def printed(self, mode: str, part: Mapping[str, Any], first: int, file: TextIO) -> str:
+        """What a mode prints of a part; the file gets it with the numbers of all cases."""
+        text = self.output(mode, part)
+        file.write(renumbered(text, first))
+        return text
+
+
+def renumbered(text: str, first: int) -> str:
+    """A text whose flows are numbered from `first` on."""
+    if not first:
+        return text
+    return re.sub(r"(?m)^flow ([0-9]+)", lambda found: "flow %d" % (int(found[1]) + first), text)
+
+
+def kept(flows: Iterable[AckFrame], first: int, wanted: Iterable[int], into: Dict[int, AckFrame]) -> Iterator[AckFrame]:
+    """The flows one after another; those that are wanted are kept."""
+    for flow in flows:
+        number = flow.number + first
+        if number in wanted:
+            into[number] = AckFrame(number, flow.case, flow.agent, flow.frame)
+        yield flow
+
+
+def table_text(rows: List[Dict[str, Any]]) -> str:
+    """The text of a table with these rows, as one run of `campaign` prints it."""
+    lines = [" ".join(COLUMNS), *(" ".join(str(row[name]) for name in COLUMNS) for row in rows)]
+    total = ["cases=%d" % len(rows), *("%s=%d" % (name, sum(row[name] for row in rows)) for name in SUMS)]
+    return "\n".join([*lines, "total " + " ".join(total)]) + "\n"
+
+
+def shown_cases(scenario: Mapping[str, Any]) -> Dict[str, List[int]]:
+    """The numbers of the cases that are plotted over time, by trace: those with the first queue, delay, loss, seed and
+    mark."""
+    found: Dict[str, Any] = {}
+    for number, case in enumerate(scenario["cases"]):
+        rest = [case.get(name) for name in ("queue", "delay_us", "loss", "seed", "mark")]
+        first, numbers = found.setdefault(case["trace"], (rest, []))
+        if rest == first:
+            numbers.append(number)
+    return {trace: numbers for trace, (_, numbers) in found.items()}
+
+
+def joined(timelines: List[Timeline]) -> Timeline:
+    """The timelines of parts as one."""
+    if len(timelines) == 1:
+        return timelines[0]
+    names = ("reports", "faults", "epochs", "ends")
+    return Timeline(*(pd.concat([getattr(one, name) for one in timelines], ignore_index=True) for name in names))

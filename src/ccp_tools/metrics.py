@@ -1,0 +1,666 @@
+"""Writes the figures of each case of a scenario: throughput, utilization, loss, delay, window, power, fairness.
+
+    ccp metrics SCENARIO TEXT.. [--until S] [--from S] [--by COLUMNS] [--columns COLUMNS] [--format csv|json|parquet]
+
+    ccp campaign scenario.json > table.txt
+    ccp acks scenario.json > acks.txt
+    ccp metrics scenario.json table.txt acks.txt > metrics.csv
+    ccp metrics scenario.json table.txt acks.txt --by trace,sender,queue
+
+A TEXT is what `campaign`, `shared`, `timeline` or `acks` printed of the scenario; it is recognized by its beginning,
+and `-` is standard input. There is a line for each case, with the scenario's own columns first, then the figures. A
+figure whose text isn't given is empty. Texts of different runs, or of another scenario, are errors.
+
+--until S computes every figure of the acknowledgements over the first S seconds of virtual time, so that cases of
+different lengths are comparable; --from S leaves out what came before, as slow start. --by groups cases by columns: for
+each combination of their values and each figure it writes the number of cases that have it, their mean, their standard
+deviation, and half of the 95 % interval of the mean by Student's t. --columns selects columns, and with --by figures.
+
+A case with a fault, without a report, with a window that never moved, with held reports, or whose own program was
+changed by its agent has the reason in the column `doubts` and on standard error: its figures may not be those of the
+sender that you mean. docs/metrics.md defines each figure by its formula, its unit and its source."""
+
+from __future__ import annotations
+
+import argparse
+import io
+import json
+import sys
+from contextlib import contextmanager
+from dataclasses import dataclass
+from pathlib import Path
+from typing import IO, Any, Dict, Iterable, Iterator, List, Mapping, Sequence, Tuple
+
+import numpy as np
+import pandas as pd
+
+from . import texts
+from .arguments import list_of, warn
+from .errors import BadText, CcpError, UsageError
+from .files import name_of, reason_of
+from .frames import AckFrame, Timeline, acks_in, timeline_of
+from .scenario_files import read_scenario
+from .traces import Trace, trace_times
+
+OWN = "case trace sender agent ss ca mss queue delay_ms timeout_ms slots lag mark loss rate seed".split()
+READ = {"name", "delay_us", "timeout_us", "acks", "losses", "cwnd", "steps"}
+COUNTS = "packets lost timeouts reports held faults epochs".split()
+FIGURES = (
+    "end_s span_s throughput_mbps utilization loss_rate queueing_mean_ms queueing_p50_ms queueing_p95_ms "
+    "queueing_p99_ms rtt_mean_ms power first_loss_s window_mean_bytes share jain link_utilization link_loss_rate"
+).split()
+METRICS = COUNTS + FIGURES
+PERCENTILES = (50, 95, 99)
+# spans that differ by more than this share aren't those of one measurement
+SAME_SPAN = 0.01
+
+
+@dataclass(frozen=True)
+class Figure:
+    """How a figure is shown: its name with the unit, the factor from METRICS to this unit, its decimals, and whether
+    more of it is better."""
+
+    label: str
+    factor: float = 1
+    decimals: int = 2
+    is_more: bool = False
+
+
+SHOWN: Dict[str, Figure] = {
+    "throughput_mbps": Figure("throughput [Mbit/s]", 1, 2, True),
+    "utilization": Figure("utilization [%]", 100, 1, True),
+    "loss_rate": Figure("lost packets [%]", 100, 2),
+    "queueing_mean_ms": Figure("queueing delay, mean [ms]", 1, 1),
+    "queueing_p50_ms": Figure("queueing delay, p50 [ms]", 1, 1),
+    "queueing_p95_ms": Figure("queueing delay, p95 [ms]", 1, 1),
+    "queueing_p99_ms": Figure("queueing delay, p99 [ms]", 1, 1),
+    "rtt_mean_ms": Figure("mean round-trip time [ms]", 1, 1),
+    "window_mean_bytes": Figure("mean window [kB]", 0.001, 1, True),
+    "power": Figure("power [Mbit/s per ms]", 1, 3, True),
+    "first_loss_s": Figure("first loss [s]", 1, 2, True),
+    "end_s": Figure("last acknowledgement [s]", 1, 2, True),
+    "span_s": Figure("measured span [s]", 1, 2, True),
+    "share": Figure("share [%]", 100, 1, True),
+    "jain": Figure("Jain's index", 1, 3, True),
+}
+
+
+@dataclass(frozen=True)
+class Window:
+    """The virtual time over which figures are computed: after `begin_us` (from the beginning where it is 0), up to
+    `until_us`, or to a case's end where that is None. Both in microseconds."""
+
+    begin_us: int = 0
+    until_us: int | None = None
+
+
+# ---- the scenario's own columns
+
+
+def own_of(case: Mapping[str, Any]) -> Dict[str, Any]:
+    """The columns of a case that are in the scenario."""
+    parts = [case.get("agent"), case.get("ss"), case.get("ca")]
+    made = {
+        "case": case["name"],
+        "trace": case["trace"],
+        "sender": ".".join(dict.fromkeys(str(part) for part in parts if part)),
+        "delay_ms": case["delay_us"] / 1000,
+        "timeout_ms": case["timeout_us"] / 1000,
+        "slots": 4,
+        "lag": 0,
+        "loss": "listed" if case.get("losses") else "none",
+    }
+    for name, value in case.items():
+        if name not in READ and isinstance(value, (str, int, float)):
+            # a member beside with the name of a figure gets a name of its own
+            made["case_" + name if name in METRICS or name in ("case", "doubts") else name] = value
+    return made
+
+
+def columns_of(scenario: Mapping[str, Any], path: str = "scenario") -> Tuple[List[str], List[Dict[str, Any]]]:
+    """The names of the scenario's columns, and these columns of each case."""
+    try:
+        found = [own_of(case) for case in scenario["cases"]]
+    except (KeyError, TypeError, AttributeError) as error:
+        raise CcpError("%s: no scenario of ccp: %s is missing or of another kind" % (path, error)) from None
+    beside = dict.fromkeys(name for own in found for name in own if name not in OWN)
+    return OWN + list(beside), found
+
+
+# ---- the figures
+
+
+class Link:
+    """What packets could use: the chances of the traces of a scenario."""
+
+    def __init__(self, scenario: Mapping[str, Any]) -> None:
+        self.scenario = scenario
+        self.kept: Dict[str, Trace] = {}
+
+    def trace(self, name: str) -> Trace:
+        if name not in self.kept:
+            self.kept[name] = Trace(trace_times(self.scenario["traces"][name], "trace " + name))
+        return self.kept[name]
+
+    def chances(self, name: str, until_us: int, begin_us: int = 0) -> int:
+        """The chances after `begin_us` (from the beginning where it is 0), and at or before `until_us`."""
+        before = self.trace(name).chances(begin_us) if begin_us else 0
+        return self.trace(name).chances(until_us) - before
+
+
+def divided(a: float, b: float) -> float | None:
+    return a / b if b else None
+
+
+def of_counts(span_us: int, chances: int, packets: int, lost: int, timeouts: int, acked: int) -> Dict[str, Any]:
+    """The figures that the table and the acknowledgements both give."""
+    return {
+        "packets": packets,
+        "lost": lost,
+        "timeouts": timeouts,
+        "span_s": span_us / 1e6,
+        "throughput_mbps": divided(8 * acked, span_us),
+        "utilization": divided(packets, chances),
+        "loss_rate": divided(lost, packets + lost),
+    }
+
+
+def whole_counts(frame: pd.DataFrame) -> Dict[str, int]:
+    """The counts of a case's acknowledgements that the table has too."""
+    return {
+        "acks": len(frame),
+        "lost": int(frame["lost_pkts_sample"].sum()),
+        "timeouts": int(frame["was_timeout"].sum()),
+        "acked": int(frame["bytes_acked"].sum()),
+        "now": int(frame["now"].iloc[-1]) if len(frame) else 0,
+    }
+
+
+def figures_of_acks(
+    case: Mapping[str, Any], frame: pd.DataFrame, link: Link, window: Window = Window()
+) -> Dict[str, Any]:
+    """The figures of a case's acknowledgements, as frames.AckFrame has them, over a window of time. Where the case ends
+    before the window does, the window ends with it."""
+    end_us = int(frame["now"].iloc[-1]) if len(frame) else 0
+    until_us = end_us if window.until_us is None else min(window.until_us, end_us)
+    made: Dict[str, Any] = {"end_s": end_us / 1e6}
+    if until_us <= window.begin_us and window.begin_us:
+        return made
+    now = frame["now"].to_numpy()
+    first = int(np.searchsorted(now, window.begin_us, "right")) if window.begin_us else 0
+    inside = frame.iloc[first : int(np.searchsorted(now, until_us, "right"))]
+    counts = whole_counts(inside)
+    packets = counts["acks"] - counts["timeouts"]
+    chances = link.chances(case["trace"], until_us, window.begin_us)
+    span_us = until_us - window.begin_us
+    made.update(of_counts(span_us, chances, packets, counts["lost"], counts["timeouts"], counts["acked"]))
+    losses = inside["now"].to_numpy()[inside["lost_pkts_sample"].to_numpy() > 0]
+    made["first_loss_s"] = float(losses[0]) / 1e6 if len(losses) else None
+    made.update(delays_of(inside, int(case["delay_us"])))
+    if made.get("rtt_mean_ms"):
+        made["power"] = (made["throughput_mbps"] or 0) / made["rtt_mean_ms"]
+    return made
+
+
+def delays_of(frame: pd.DataFrame, delay_us: int) -> Dict[str, float]:
+    """The figures of the round-trip times of acknowledged packets."""
+    trips = frame["rtt_sample_us"].to_numpy()[frame["packets_acked"].to_numpy() > 0].astype(np.int64)
+    if not len(trips):
+        return {}
+    made = {"rtt_mean_ms": float(trips.sum()) / len(trips) / 1e3}
+    made["queueing_mean_ms"] = float(trips.sum() - delay_us * len(trips)) / len(trips) / 1e3
+    ranked = np.percentile(trips, PERCENTILES, method="inverted_cdf")  # nearest rank
+    made.update(
+        ("queueing_p%d_ms" % percent, float(value - delay_us) / 1e3) for percent, value in zip(PERCENTILES, ranked)
+    )
+    return made
+
+
+def mean_window(reports: pd.DataFrame, window: Window = Window()) -> float | None:
+    """The mean window over the reports of a flow, in bytes: a report's window counts from the report before, within the
+    window of time. None where there is no report in it."""
+    ends = reports["now"].to_numpy().astype(np.int64)
+    spans = np.diff(np.clip(np.concatenate([[0], ends]), window.begin_us, window.until_us))
+    total = spans.sum()
+    return float((reports["cwnd"].to_numpy().astype(float) * spans).sum() / total) if total else None
+
+
+def figures_of_table(table: texts.Table, scenario: Mapping[str, Any], link: Link) -> List[Dict[str, Any]]:
+    """The figures of each row of a table. Over a shared link the span of each flow is that of the run."""
+    shared = scenario.get("shared") if table.link else None
+    if table.link and not shared:
+        raise CcpError("the table is one of `shared`, and the scenario has no member shared")
+    found = shared_figures(table, shared, link) if shared else [{} for _ in table.rows]
+    for made, row, case in zip(found, table.rows, scenario["cases"]):
+        if table.link and shared:
+            span_us = table.link["rounds"] * shared["quantum_us"]
+            chances = link.chances(shared["trace"], span_us - 1)
+        else:
+            span_us, chances = row["now"], link.chances(case["trace"], row["now"])
+        made["end_s"] = row["now"] / 1e6
+        made.update(
+            of_counts(span_us, chances, row["acks"] - row["timeouts"], row["lost"], row["timeouts"], row["acked"])
+        )
+        made.update((name, row[name]) for name in ("reports", "held", "faults", "epochs"))
+    return found
+
+
+def shared_figures(table: texts.Table, shared: Mapping[str, Any], link: Link) -> List[Dict[str, Any]]:
+    """The figures of each flow that only a shared link has."""
+    acked = [row["acked"] for row in table.rows]
+    of_link = table.link or {}
+    until_us = of_link["rounds"] * shared["quantum_us"] - 1
+    of_all = {
+        "jain": jain(acked),
+        "link_utilization": divided(of_link["acked"], link.chances(shared["trace"], until_us)),
+        "link_loss_rate": divided(of_link["lost"], of_link["acked"] + of_link["lost"]),
+    }
+    return [{**of_all, "share": divided(part, sum(acked))} for part in acked]
+
+
+def jain(values: Sequence[float]) -> float | None:
+    """Jain's index of fairness: 1 where all values are equal, 1/n where one is all; None where all are 0."""
+    squares = sum(value * value for value in values)
+    return sum(values) ** 2 / (len(values) * squares) if squares else None
+
+
+def figures(
+    scenario: Mapping[str, Any],
+    *,
+    table: texts.Table | None = None,
+    timeline: Timeline | None = None,
+    acks: Iterable[AckFrame] | None = None,
+    window: Window | Mapping[str, Window] = Window(),
+    answered: Iterable[str] = (),
+) -> pd.DataFrame:
+    """The figures of each case of a scenario, a row a case: the scenario's columns, METRICS and `doubts`.
+
+    Each source is optional; without `acks` a window of time is a CcpError. `window` is that of all cases, or maps a
+    trace to that of its cases. `answered` names senders whose agent is meant
+    to change their program. Units are in the columns' names, shares are from 0 to 1. Errors: CcpError, where the
+    sources are of different runs or of another scenario."""
+    names, own = columns_of(scenario)
+    cases, link = scenario["cases"], Link(scenario)
+    windows = [window if isinstance(window, Window) else window[case["trace"]] for case in cases]
+    if any(one != Window() for one in windows) and acks is None:
+        raise CcpError("a window of time needs the acknowledgements, as `acks` prints them")
+    found: List[Dict[str, Any]] = [{} for _ in cases]
+    if table:
+        check_cases(scenario, [row["case"] for row in table.rows], "the table")
+        found = figures_of_table(table, scenario, link)
+    rows: List[Any] = list(table.rows) if table else [None for _ in cases]
+    if acks is not None:
+        add_acks(found, cases, rows, acks, link, windows)
+    if timeline is not None:
+        add_timeline(found, cases, rows, timeline, windows)
+    for made, case, row in zip(found, cases, rows):
+        made["doubts"] = "; ".join(doubts_of(case, made, row, timeline, own_of(case)["sender"] in answered))
+    made_frame = pd.DataFrame(
+        [{**columns, **more} for columns, more in zip(own, found)], columns=[*names, *METRICS, "doubts"]
+    )
+    return made_frame.astype({name: "Int64" for name in COUNTS}).astype({name: "float64" for name in FIGURES})
+
+
+def add_acks(
+    found: List[Dict[str, Any]],
+    cases: Sequence[Any],
+    rows: Sequence[Any],
+    acks: Iterable[AckFrame],
+    link: Link,
+    windows: Sequence[Window],
+) -> None:
+    """Adds the figures of acknowledgements, where their counts are those of the table."""
+    names = []
+    for at, flow in enumerate(acks):
+        names.append(flow.case)
+        if at < len(cases) and flow.case == cases[at]["name"]:
+            if rows[at]:
+                texts.same_run(flow.case, "acknowledgements", whole_counts(flow.frame), rows[at])
+            found[at].update(figures_of_acks(cases[at], flow.frame, link, windows[at]))
+    check_cases({"cases": cases}, names, "the acknowledgements")
+
+
+def add_timeline(
+    found: List[Dict[str, Any]],
+    cases: Sequence[Any],
+    rows: Sequence[Any],
+    timeline: Timeline,
+    windows: Sequence[Window],
+) -> None:
+    """Adds the figures of a timeline, where its counts are those of the table."""
+    check_cases({"cases": cases}, list(timeline.ends["case"]), "the timeline")
+    reports = dict(list(timeline.reports.groupby("flow", sort=False)))
+    for at, end in enumerate(timeline.ends.itertuples()):
+        counts = {name: int(getattr(end, name)) for name in "acks reports held faults epochs cwnd".split()}
+        counts["tail"] = counts["acks"] - int(end.first)
+        if rows[at]:
+            texts.same_run(end.case, "timeline", counts, rows[at])
+        found[at].update({name: counts[name] for name in ("reports", "held", "faults", "epochs")})
+        if end.flow in reports:
+            found[at]["window_mean_bytes"] = mean_window(reports[end.flow], windows[at])
+
+
+def check_cases(scenario: Mapping[str, Any], names: Sequence[str], what: str) -> None:
+    """Refuses a text whose cases aren't those of the scenario in order."""
+    wanted = [case["name"] for case in scenario["cases"]]
+    for at, (name, found) in enumerate(zip(wanted, names)):
+        if name != found:
+            raise CcpError("%s: case %d is %s, and in the scenario %s" % (what, at, found, name))
+    if len(names) != len(wanted):
+        raise CcpError("%s: there are %d cases, and %d in the scenario" % (what, len(names), len(wanted)))
+
+
+# ---- doubts
+
+
+def first_window(mss: int) -> int:
+    """The window that an agent begins with, in bytes (RFC 5681, section 3.1)."""
+    return mss * (2 if mss > 2190 else 3 if mss > 1095 else 4)
+
+
+def doubts_of(
+    case: Mapping[str, Any],
+    made: Mapping[str, Any],
+    row: Mapping[str, Any] | None,
+    timeline: Timeline | None,
+    is_answered: bool = False,
+) -> List[str]:
+    """Why the figures of a case may not be those of the sender that its name says."""
+    found = []
+    if made.get("faults"):
+        found.append("%s of its program" % counted(made["faults"], "fault"))
+    if made.get("reports") == 0:
+        found.append("no report")
+    if row and row["acks"] > row["timeouts"] and {row["peak"], row["cwnd"]} == {first_window(case["mss"])}:
+        found.append("its window never moved from %d bytes" % row["cwnd"])
+    is_own = bool(case.get("ss")) and case.get("ss") == case.get("ca")
+    if is_own and not is_answered and (made.get("epochs") or 0) > 1:
+        found.append("its agent changed the program %s" % counted(made["epochs"] - 1, "time"))
+    if made.get("held"):
+        found.append("%s held back" % counted(made["held"], "report"))
+    return found
+
+
+def counted(count: int, what: str) -> str:
+    return "%d %s%s" % (count, what, "" if count == 1 else "s")
+
+
+def print_doubts(frame: pd.DataFrame) -> None:
+    """Prints a warning on standard error for each case with a doubt."""
+    for case, doubts in zip(frame["case"], frame["doubts"]):
+        if doubts:
+            warn("case %s: %s" % (case, doubts))
+
+
+def spans_differ(frame: pd.DataFrame) -> bool:
+    """Whether the measured spans of cases of one trace differ by more than one per cent."""
+    spans = frame.dropna(subset=["span_s"]).groupby("trace", sort=False)["span_s"].agg(["min", "max"])
+    return bool((spans["max"] > (1 + SAME_SPAN) * spans["min"]).any())
+
+
+# ---- over cases
+
+
+def groups(frame: pd.DataFrame, by: Sequence[str], names: Sequence[str] = tuple(METRICS)) -> pd.DataFrame:
+    """The cases of `figures` with equal values in the columns `by`, a row a group: `n` is the number of its cases, and
+    of each figure `NAME_n` the number of cases that have it, `NAME_mean`, `NAME_sd` their standard deviation (divisor
+    n - 1), and `NAME_ci95` half of the 95 % interval of the mean by Student's t. The order is that of the cases."""
+    from scipy.special import stdtrit  # the quantile of Student's t; scipy.stats takes far longer to import
+
+    grouped = frame.groupby(list(by), sort=False, dropna=False)
+    made = grouped.size().rename("n").to_frame()
+    for name in names:
+        some = grouped[name].agg(["count", "mean", "std"]).astype("float64")
+        count = some["count"].to_numpy()
+        half = stdtrit(np.maximum(count - 1, 1), 0.975) * some["std"] / np.sqrt(np.maximum(count, 1))
+        made[name + "_n"] = count.astype(int)
+        made[name + "_mean"], made[name + "_sd"], made[name + "_ci95"] = some["mean"], some["std"], half
+    return made.reset_index()
+
+
+# ---- what is printed
+
+
+def csv_text(frame: pd.DataFrame) -> str:
+    """A frame as CSV, numbers with nine significant digits at most."""
+    return frame.to_csv(index=False, float_format="%.9g", lineterminator="\n")
+
+
+def plain(value: Any) -> Any:
+    """A value of a frame as JSON has it: floats with nine significant digits at most, None for what isn't there."""
+    if value is None or value is pd.NA or (isinstance(value, float) and value != value):
+        return None
+    if isinstance(value, (float, np.floating)):
+        return float("%.9g" % value)
+    return value.item() if isinstance(value, np.generic) else value
+
+
+def rows_of(frame: pd.DataFrame) -> List[Dict[str, Any]]:
+    """The rows of a frame as dicts of plain values."""
+    columns = [frame[name].astype(object).tolist() for name in frame.columns]
+    return [dict(zip(frame.columns, map(plain, row))) for row in zip(*columns)]
+
+
+def json_text(frame: pd.DataFrame, by: Sequence[str] | None, names: Sequence[str]) -> str:
+    """The figures of cases, or those of groups by columns, as JSON."""
+    rows = rows_of(frame)
+    if by is None:
+        return json.dumps({"cases": rows}, indent=1) + "\n"
+    kinds = ("n", "mean", "sd", "ci95")
+    made = [
+        {
+            "by": {name: row[name] for name in by},
+            "n": row["n"],
+            "metrics": {name: {kind: row["%s_%s" % (name, kind)] for kind in kinds} for name in names},
+        }
+        for row in rows
+    ]
+    return json.dumps({"groups": made}, indent=1) + "\n"
+
+
+def read_figures(path: str) -> Tuple[pd.DataFrame, bool]:
+    """The frame of a file that `ccp metrics --format json` or csv wrote, and whether it has groups."""
+    from .files import read_text
+
+    text = read_text(path)
+    try:
+        if text.lstrip().startswith("{"):
+            return frame_of_json(json.loads(text))
+        frame = pd.read_csv(io.StringIO(text))
+    except (ValueError, KeyError, TypeError, AttributeError) as error:
+        raise CcpError("%s: this isn't what `ccp metrics` writes: %s" % (name_of(path), error)) from None
+    is_grouped = "n" in frame and any(str(name).endswith("_ci95") for name in frame)
+    if not is_grouped and not {"trace", "sender"} & set(frame):
+        raise CcpError("%s: this isn't what `ccp metrics` writes: it has no column trace or sender" % name_of(path))
+    return frame, is_grouped
+
+
+def frame_of_json(made: Mapping[str, Any]) -> Tuple[pd.DataFrame, bool]:
+    if "groups" not in made:
+        return pd.DataFrame(made["cases"]), False
+    rows = []
+    for group in made["groups"]:
+        row = {**group["by"], "n": group["n"]}
+        for name, values in group["metrics"].items():
+            row.update(("%s_%s" % (name, kind), value) for kind, value in values.items())
+        rows.append(row)
+    return pd.DataFrame(rows), True
+
+
+# ---- the command
+
+
+def add_arguments(parser: argparse.ArgumentParser) -> None:
+    parser.add_argument("scenario", metavar="SCENARIO", help="the scenario's file")
+    parser.add_argument(
+        "texts", nargs="*", metavar="TEXT", help="what campaign, shared, timeline or acks printed of it"
+    )
+    parser.add_argument(
+        "--until", type=seconds, metavar="S", help="figures over the first S seconds (to the end of each case)"
+    )
+    parser.add_argument(
+        "--from", dest="begin", type=seconds, default=0, metavar="S", help="leaves out the first S seconds (0)"
+    )
+    names = list_of(str)
+    parser.add_argument(
+        "--by", type=names, metavar="COLUMNS", help="mean, deviation and interval over cases that are equal in these"
+    )
+    parser.add_argument(
+        "--columns", type=names, metavar="COLUMNS", help="the columns that are written; with --by the figures (all)"
+    )
+    parser.add_argument("--format", choices=("csv", "json", "parquet"), default="csv", help="the form (csv)")
+    parser.add_argument("--json", dest="format", action="store_const", const="json", help="the same as --format json")
+    parser.add_argument("--out", metavar="FILE", help="the file that is written (standard output)")
+    for old in ("table", "timeline", "acks"):
+        parser.add_argument("--" + old, dest="old_" + old, metavar="TEXT", help=argparse.SUPPRESS)
+
+
+def seconds(text: str) -> int:
+    """Seconds above 0, with at most six decimals, as microseconds."""
+    try:
+        value = round(float(text) * 1e6)
+    except (ValueError, OverflowError):
+        value = 0
+    if not 0 < value <= 10**15:
+        raise argparse.ArgumentTypeError("%s isn't a number of seconds above 0" % text)
+    return value
+
+
+@contextmanager
+def opened(path: str) -> Iterator[IO[bytes]]:
+    """A file for its bytes; `-` is standard input."""
+    try:
+        file = sys.stdin.buffer if path == "-" else open(path, "rb")
+    except OSError as error:
+        raise CcpError("%s: %s" % (name_of(path), reason_of(error))) from None
+    try:
+        yield file
+    except OSError as error:
+        raise CcpError("%s: %s" % (name_of(path), reason_of(error))) from None
+    except BadText as error:
+        raise CcpError("%s: %s" % (name_of(path), error)) from None
+    finally:
+        if path != "-":
+            file.close()
+
+
+class Continued:
+    """A file whose beginning was read already."""
+
+    def __init__(self, beginning: bytes, file: IO[bytes]) -> None:
+        self.beginning, self.file = beginning, file
+
+    def read(self, size: int = -1) -> bytes:
+        beginning, self.beginning = self.beginning, b""
+        return beginning + self.file.read(size if size < 0 else max(0, size - len(beginning)))
+
+
+@dataclass
+class Given:
+    """The texts of a run: the table, the timeline, and the path of the acknowledgements, which are read in pieces."""
+
+    table: texts.Table | None = None
+    timeline: Timeline | None = None
+    acks: List[AckFrame] | None = None
+
+
+def read_given(paths: Sequence[str]) -> Given:
+    """Reads the texts of one run, each by what it is. At most one is of each kind."""
+    given = Given()
+    for path in paths:
+        with opened(path) as file:
+            beginning = file.read(1 << 16)
+            kind = texts.kind_of(beginning.decode("utf-8", "surrogateescape"))
+            name = {"table": "table", "live": "timeline", "acks": "acks"}.get(kind)
+            if name is None:
+                raise CcpError("%s: a text of campaign, shared, timeline or acks is expected" % name_of(path))
+            if getattr(given, name) is not None:
+                raise UsageError("%s: there are two texts of this kind" % name_of(path))
+            if name == "acks":
+                given.acks = list(acks_in(Continued(beginning, file)))  # type: ignore[arg-type]
+            else:
+                text = (beginning + file.read()).decode("utf-8", "surrogateescape")
+                setattr(given, name, texts.read_table(text) if name == "table" else timeline_of(texts.flows_in(text)))
+    return given
+
+
+def paths_of(arguments: argparse.Namespace) -> List[str]:
+    """The texts' files. The options of version 0.9 are accepted with a warning."""
+    paths = list(arguments.texts)
+    for old in ("table", "timeline", "acks"):
+        path = getattr(arguments, "old_" + old)
+        if path:
+            warn("--%s %s is now %s alone, without an option" % (old, path, path))
+            paths.append(path)
+    if not paths:
+        raise UsageError("a text of campaign, shared, timeline or acks is expected after the scenario")
+    if [arguments.scenario, *paths].count("-") > 1:
+        raise UsageError("only one of the files is standard input")
+    return paths
+
+
+def check_columns(option: str, found: Sequence[str], names: Sequence[str]) -> None:
+    """Refuses the name of a column that isn't there."""
+    for name in found:
+        if name not in names:
+            raise UsageError("%s %s: there is no such column; there are %s" % (option, name, ", ".join(names)))
+
+
+def write_out(text: str, path: str | None) -> None:
+    if path is None:
+        sys.stdout.write(text)
+        return
+    try:
+        Path(path).write_text(text, encoding="utf-8")
+    except OSError as error:
+        raise CcpError("%s: %s" % (path, reason_of(error))) from None
+
+
+def write_parquet(frame: pd.DataFrame, path: str | None) -> None:
+    """Writes a frame as Parquet, for which pandas needs pyarrow or fastparquet."""
+    if path is None:
+        raise UsageError("--format parquet needs --out FILE")
+    try:
+        frame.to_parquet(path)
+    except ImportError:
+        raise CcpError("--format parquet needs pyarrow or fastparquet, and neither is installed") from None
+    except OSError as error:
+        raise CcpError("%s: %s" % (path, reason_of(error))) from None
+
+
+def run(arguments: argparse.Namespace) -> int:
+    """Runs `ccp metrics`."""
+    paths = paths_of(arguments)
+    window = Window(arguments.begin, arguments.until)
+    if window.until_us is not None and window.until_us <= window.begin_us:
+        raise UsageError("--until: a time after that of --from is expected")
+    scenario = read_scenario(arguments.scenario)
+    names, _ = columns_of(scenario, arguments.scenario)
+    check_columns("--by", arguments.by or [], names)
+    known = METRICS if arguments.by else [*names, *METRICS, "doubts"]
+    check_columns("--columns", arguments.columns or [], known)
+    given = read_given(paths)
+    frame = figures(scenario, table=given.table, timeline=given.timeline, acks=given.acks, window=window)
+    if not arguments.quiet:
+        print_doubts(frame)
+        note_short(frame, window)
+    if arguments.by:
+        made = groups(frame, arguments.by, arguments.columns or METRICS)
+    else:
+        made = frame[arguments.columns or known]
+    if arguments.format == "parquet":
+        write_parquet(made, arguments.out)
+    elif arguments.format == "json":
+        write_out(json_text(made, arguments.by, arguments.columns or METRICS), arguments.out)
+    else:
+        write_out(csv_text(made), arguments.out)
+    return 0
+
+
+def note_short(frame: pd.DataFrame, window: Window) -> None:
+    """Warns of cases that end before the window of time does, so that their figures are of a shorter span."""
+    if window.until_us is None:
+        return
+    short = frame[frame["end_s"] * 1e6 < window.until_us]
+    for case, end in zip(short["case"], short["end_s"]):
+        warn("case %s: it ends at %g s, before --until %g" % (case, end, window.until_us / 1e6))
