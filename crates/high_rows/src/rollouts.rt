@@ -4,8 +4,8 @@ ghost use Rattle.std.specs.Prelude.{◌≡◌, ◌<◌};
 use ccp_base::{Bytes, NoMemory};
 use fold_machine::Steps;
 use live_install::{Entry, OpenBook, OpenBooks, OpenCell, OpenLetter, rollout_text};
-use scenario_json::OpenCases;
 use scenario_json::calls::rollout_scene;
+use scenario_json::{OpenCase, OpenCases};
 use std::alloc::Global;
 use std::marker::Brand;
 use std::process::Abort;
@@ -165,5 +165,30 @@ fn a_change_after_an_acknowledgement_and_a_fault(rt: HostRuntime) -> Result<(), 
 #[test]
 fn two_entries_before_a_change_and_reports_with_fields(rt: HostRuntime) -> Result<(), Fail> {
     assert!(rt; has_text(rt.alloc(), 1, &REPORTING, REPORTING_TEXT)?);
+    Ok(())
+}
+
+/// Whether a case is the same as its copy, which is dropped then.
+fn is_same(case: &OpenCase, copy: OpenCase) -> bool {
+    let same = case.same(&copy);
+    drop(copy);
+    same
+}
+
+/// Whether the first of two cases is the same as its copy, and not as the second one.
+fn are_told_apart(alloc: Global, cases: &[OpenCase]) -> Result<bool, Fail> {
+    let [first, second] = cases else {
+        return Err("two cases".into());
+    };
+    let copy = first.copy(alloc)?;
+    Ok(is_same(first, copy) && !first.same(second))
+}
+
+#[test]
+fn a_case_is_the_same_as_its_copy_alone(rt: HostRuntime) -> Result<(), Fail> {
+    let cases = rollout_scene(rt.alloc(), TWO)?;
+    let apart = are_told_apart(rt.alloc(), cases.as_slice());
+    drop(cases);
+    assert!(rt; apart?);
     Ok(())
 }

@@ -5,7 +5,7 @@ ghost use Rattle.flow_core.specs.Cells.{IsComplete};
 
 use agent_core::Ticket;
 use agent_core::calls::answer;
-use ccp_base::{Reply, Report, Told};
+use ccp_base::Reply;
 use flow_core::{Cell, Ended, TakeFault};
 use fold_machine::{Acked, Steps};
 use std::alloc::Global;
@@ -13,15 +13,6 @@ use std::marker::Brand;
 use std::process::Abort;
 use std::sync::ledger::{Blank, Ledger};
 use std::test::Fail;
-
-/// The epoch of a report, its span and its first field.
-#[derive(Clone, Copy, PartialEq, Eq, Debug)]
-pub(crate) struct Shown {
-    pub(crate) epoch: u32,
-    pub(crate) first: u64,
-    pub(crate) end: u64,
-    pub(crate) value: u64,
-}
 
 /// The outcome of the cell's next acknowledgement.
 fn next(cell: &mut Cell) -> Result<Acked, Ended> {
@@ -96,11 +87,6 @@ fn settle(cell: &mut Cell, ticket: &Ticket) -> Option<Reply> {
     }
 }
 
-/// The answer to a ticket is applied.
-pub(crate) fn assert_settles(rt: &impl Abort, cell: &mut Cell, ticket: &Ticket) {
-    assert!(rt; settle(cell, ticket).is_some());
-}
-
 /// The answer to a ticket is applied, and changes nothing.
 pub(crate) fn assert_settles_nothing(rt: &impl Abort, cell: &mut Cell, ticket: &Ticket) {
     assert_eq!(rt; settle(cell, ticket), Some(Reply::Nothing));
@@ -117,26 +103,4 @@ fn ticket_out_if_stale(cell: &mut Cell, ticket: &Ticket) -> Option<Option<u32>> 
 /// The answer to a ticket is refused, and no ticket is out.
 pub(crate) fn assert_stale(rt: &impl Abort, cell: &mut Cell, ticket: &Ticket) {
     assert_eq!(rt; ticket_out_if_stale(cell, ticket), Some(None));
-}
-
-fn shown_of(report: &Report) -> Shown {
-    Shown {
-        epoch: report.epoch,
-        first: report.first,
-        end: report.end,
-        value: report.fields.get(0).unwrap_or(0),
-    }
-}
-
-/// What a ticket shows of its report; None if it is about a fault.
-fn shown_by(ticket: &Ticket) -> Option<Shown> {
-    match &ticket.told {
-        Told::Report(report) => Some(shown_of(report)),
-        Told::Fault(_) => None,
-    }
-}
-
-/// A ticket shows this of its report.
-pub(crate) fn assert_shows(rt: &impl Abort, ticket: &Ticket, want: Shown) {
-    assert_eq!(rt; shown_by(ticket), Some(want));
 }

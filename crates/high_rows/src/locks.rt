@@ -1,4 +1,4 @@
-//! Tables of flows.
+//! That each flow has its own lock.
 use ccp_base::Sequence;
 use flow_core::Cell;
 use flow_table::FlowTable;
@@ -8,10 +8,6 @@ use std::alloc::Global;
 use std::process::Abort;
 use std::sync::Wait;
 use std::test::Fail;
-
-/// Two flows of Reno's with four acknowledgements, over a trace with one chance each 10 ms.
-const TWO: &[u8] =
-    b"{\"version\":1,\"traces\":{\"t\":\"10\\n\"},\"cases\":[{\"name\":\"a\",\"agent\":\"reno\",\"trace\":\"t\",\"mss\":1448,\"queue\":10,\"delay_us\":20000,\"timeout_us\":1000000,\"acks\":4},{\"name\":\"a\",\"agent\":\"reno\",\"trace\":\"t\",\"mss\":1448,\"queue\":10,\"delay_us\":20000,\"timeout_us\":1000000,\"acks\":4}]}";
 
 /// The table of a scenario's flows.
 fn table(alloc: Global, text: &[u8]) -> Result<FlowTable<Cell>, Fail> {
@@ -38,23 +34,6 @@ fn acknowledge<R: Abort + Wait>(rt: &R, table: &FlowTable<Cell>, flow: u32) {
 /// At this place stands the flow of its number, with this many acknowledgements.
 fn has_acks(rt: &impl Abort, cells: &Sequence<Cell>, place: u32, acks: u32) {
     assert!(rt; flow_and_acks(cells, place as usize) == Some((place, acks)));
-}
-
-/// There are two flows, as they were left.
-fn are_as_left(rt: &impl Abort, cells: &Sequence<Cell>) {
-    assert!(rt; cells.len() == 2);
-    has_acks(rt, cells, 0, 0);
-    has_acks(rt, cells, 1, 1);
-}
-
-#[test]
-fn cells_come_back_as_they_were_left(rt: HostRuntime) -> Result<(), Fail> {
-    let table = table(rt.alloc(), TWO)?;
-    acknowledge(&rt, &table, 1);
-    let cells = table.close(rt.alloc())?;
-    are_as_left(&rt, &cells);
-    drop(cells);
-    Ok(())
 }
 
 /// A scenario of 63 flows of Reno's with 64 acknowledgements, and a last one with 65,536.

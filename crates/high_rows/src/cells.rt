@@ -1,8 +1,8 @@
-//! Flows with their links.
-use crate::scenes::{COUNTING, RENO, VOLATILE, cell};
+//! Letters that a flow refuses, and its answers.
+use crate::flows::cell;
 use crate::turns::{
-    Shown, assert_ack, assert_complete, assert_number, assert_out, assert_refused,
-    assert_settles_nothing, assert_shows, assert_stale, take,
+    assert_ack, assert_complete, assert_number, assert_out, assert_refused, assert_settles_nothing,
+    assert_stale, take,
 };
 use flow_core::{Cell, Ended, TakeFault};
 use fold_machine::Acked;
@@ -58,53 +58,6 @@ fn assert_flow_completes(rt: &impl Abort, alloc: Global, mut cell: Cell) -> Resu
 
 #[test]
 fn a_flow_reports_once_and_is_complete(rt: HostRuntime) -> Result<(), Fail> {
-    let cell = cell(rt.alloc(), RENO)?;
+    let cell = cell(rt.alloc())?;
     assert_flow_completes(&rt, rt.alloc(), cell)
-}
-
-/// What a report of epoch 0 shows that has this span and this first field.
-fn span(first: u64, end: u64, value: u64) -> Shown {
-    Shown {
-        epoch: 0,
-        first,
-        end,
-        value,
-    }
-}
-
-/// The second report is held, and the third one has the span of both.
-fn assert_holds(rt: &impl Abort, alloc: Global, cell: &mut Cell, value: u64) -> Result<(), Fail> {
-    assert_ack(rt, cell, Ok(Acked::Reported));
-    assert_ack(rt, cell, Ok(Acked::Held));
-    let earlier = take(alloc, cell)?;
-    assert_ack(rt, cell, Ok(Acked::Reported));
-    assert_shows(rt, &earlier, span(0, 1, 1));
-    assert_settles_nothing(rt, cell, &earlier);
-    let later = take(alloc, cell)?;
-    assert_shows(rt, &later, span(1, 3, value));
-    Ok(())
-}
-
-/// The same of a flow with one slot, which it drops.
-fn assert_flow_holds(
-    rt: &impl Abort,
-    alloc: Global,
-    mut cell: Cell,
-    value: u64,
-) -> Result<(), Fail> {
-    let held = assert_holds(rt, alloc, &mut cell, value);
-    drop(cell);
-    held
-}
-
-#[test]
-fn a_held_report_is_made_with_the_next(rt: HostRuntime) -> Result<(), Fail> {
-    let cell = cell(rt.alloc(), COUNTING)?;
-    assert_flow_holds(&rt, rt.alloc(), cell, 3)
-}
-
-#[test]
-fn a_held_report_keeps_its_volatile_field(rt: HostRuntime) -> Result<(), Fail> {
-    let cell = cell(rt.alloc(), VOLATILE)?;
-    assert_flow_holds(&rt, rt.alloc(), cell, 2)
 }

@@ -9,7 +9,6 @@ use scenario_json::calls::shared_scene;
 use scenario_json::{SceneFault, SharedScene};
 use shared_run::{SharedRows, SharedRun, shared, shared_rows};
 use std::alloc::Global;
-use std::process::Abort;
 use std::sync::Wait;
 use std::test::Fail;
 use std::thread::Threads;
@@ -50,21 +49,36 @@ fn run_without_books<R: Threads + Wait + Sync>(
     Ok(shared_rows(rt, alloc, scene, workers, &OpenGate)?)
 }
 
-/// Both runs have the same rows, and one has a book of each flow with its four acknowledgements.
-fn assert_one_run(rt: &impl Abort, kept: &SharedRun, made: &SharedRows) {
-    assert!(rt; kept.rows.as_slice() == made.rows.as_slice());
-    assert!(rt; kept.givens.len() == 2);
-    for given in kept.givens.as_slice() {
-        assert!(rt; given.acks.len() == 4);
-    }
+/// Whether both runs have the same rows, and one has a book of each flow with its four acknowledgements.
+fn is_one_run(kept: &SharedRun, made: &SharedRows) -> bool {
+    let givens = kept.givens.as_slice();
+    kept.rows.as_slice() == made.rows.as_slice()
+        && givens.len() == 2
+        && givens.iter().all(|given| given.acks.len() == 4)
+}
+
+/// The same of a run with books, and one without, which it makes and drops.
+fn is_made_without_books<R: Threads + Wait + Sync>(
+    rt: &R,
+    alloc: Global,
+    kept: &SharedRun,
+) -> Result<bool, Fail> {
+    let made = run_without_books(rt, alloc, Workers::new(1))?;
+    let is_one = is_one_run(kept, &made);
+    drop(made);
+    Ok(is_one)
+}
+
+/// The same of a run with books, which it makes and drops.
+fn are_made_alike<R: Threads + Wait + Sync>(rt: &R, alloc: Global) -> Result<bool, Fail> {
+    let kept = run_with_books(rt, alloc, Workers::new(2))?;
+    let is_one = is_made_without_books(rt, alloc, &kept);
+    drop(kept);
+    is_one
 }
 
 #[test]
 fn a_run_with_books_has_the_rows_of_one_without(rt: HostRuntime) -> Result<(), Fail> {
-    let kept = run_with_books(&rt, rt.alloc(), Workers::new(2))?;
-    let made = run_without_books(&rt, rt.alloc(), Workers::new(1))?;
-    assert_one_run(&rt, &kept, &made);
-    drop(kept);
-    drop(made);
+    assert!(rt; are_made_alike(&rt, rt.alloc())?);
     Ok(())
 }

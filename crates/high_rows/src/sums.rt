@@ -1,4 +1,4 @@
-//! Tables of campaigns.
+//! Sums of a table that are past 64 bits.
 ghost use Rattle.std.specs.Prelude.{◌≡◌, IfOk, length};
 
 use agent_core::Agent;
@@ -10,8 +10,8 @@ use reno_agent::Reno;
 use std::alloc::Global;
 use std::test::Fail;
 
-/// The row of a flow of Reno's with four acknowledgements.
-const ROW: Row = Row {
+/// The row of a flow of Reno's with four acknowledgements, that of `ONE_CASE`.
+pub(crate) const ROW: Row = Row {
     acks: 4,
     reports: 1,
     held: 0,
@@ -93,12 +93,23 @@ fn rows(alloc: Global) -> Result<Rows, Fail>
     Ok(rows)
 }
 
+/// The table of these names and agents, which it drops, as well as the rows.
+fn table_of(alloc: Global, names: &Names, agents: Agents) -> Result<Bytes, Fail>
+    requires names { length names.now ≡ 3 }
+    requires agents { length agents ≡ 3 }
+{
+    let text = match rows(alloc) {
+        Ok(rows) => Ok(table_text(alloc, names, &agents, &rows)?),
+        Err(fail) => Err(fail),
+    };
+    drop(agents);
+    text
+}
+
 /// The table of a flow of Reno's and two of CUBIC's.
 fn table(alloc: Global) -> Result<Bytes, Fail> {
     let names = names(alloc)?;
-    let agents = agents(alloc)?;
-    let rows = rows(alloc)?;
-    Ok(table_text(alloc, &names, &agents, &rows)?)
+    table_of(alloc, &names, agents(alloc)?)
 }
 
 #[test]
