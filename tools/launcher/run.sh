@@ -120,7 +120,7 @@ input_of_files() {
 # Runs the program $1 beside this shell, prints its error line, and sets `status`. At a terminal the seconds of a long run
 # are counted, except where what is typed is the input, and in `feed`, whose user answers.
 run_beside() {
-    local input errors output child counter='' filter='' begun=$SECONDS
+    local input errors output child counter='' filter='' interrupted='' begun=$SECONDS
     if [ ${#files[@]} -gt 1 ]; then
         exec {input}< <(input_of_files)
     elif [ "${files[0]--}" != - ]; then
@@ -138,12 +138,16 @@ run_beside() {
     else
         exec {output}>&1
     fi
+    # an interrupt that comes before the program's number is known ends it as soon as it is
+    trap 'interrupted=130' INT
+    trap 'interrupted=143' TERM HUP
     # the program's line is held until it has ended
     exec {errors}< <(exec 2>&1 >&"$output" <&"$input"; exec "$1" "${words[@]}")
     child=$!
     exec {input}<&- {output}>&-
     trap 'stop_program "$child" "$counter" 130' INT
     trap 'stop_program "$child" "$counter" 143' TERM HUP
+    if [ -n "$interrupted" ]; then stop_program "$child" "$counter" "$interrupted"; fi
     wait "$child"
     status=$?
     if [ -n "$filter" ]; then wait_for "$filter"; else stop_counter "$counter"; fi
