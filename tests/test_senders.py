@@ -5,6 +5,7 @@ import argparse
 import csv
 import io
 import json
+import re
 from pathlib import Path
 from typing import Dict, List, Tuple
 
@@ -21,6 +22,7 @@ FOLDS = sorted((EXAMPLES / "like-linux").glob("*.portus"))
 PAGE = REPOSITORY / "docs" / "senders.md"
 TRACES = [EXAMPLES / "traces" / name for name in ("fixed.trace", "train.trace", "wave.trace")]
 HEAD = "| trace | sender | Mbit/s | used % | lost packets | delay ms | p95 ms |"
+BEFORE_AND_AFTER = re.compile(r"\| \w+ \| \d+ \| \d+ \| (reno|cubic) \| ")
 Figures = Dict[Tuple[str, str], str]
 
 
@@ -77,7 +79,7 @@ def test_senders_like_linux_by_name(tmp_path: Path) -> None:
         assert made["programs"][name] == (PROGRAMS / (file + ".portus")).read_text(encoding="utf-8")
 
 
-@pytest.mark.parametrize("text", ["linux-reno=reno", "linux-cubic=examples/delay.portus", "linux-reno:p", "linux-vegas"])
+@pytest.mark.parametrize("text", ["linux-reno=reno", "linux-cubic=delay.portus", "linux-reno:p", "linux-vegas"])
 def test_names_of_senders_like_linux_are_theirs(text: str) -> None:
     with pytest.raises(argparse.ArgumentTypeError, match="linux-reno"):
         sender_of(text)
@@ -158,6 +160,22 @@ def test_figures_of_the_page(program: Path, tmp_path: Path) -> None:
         assert rows
         for trace, sender, *cells in rows:
             assert " ".join(cells) == figures[trace, sender], (trace, sender)
+
+
+@pytest.mark.slow
+@needs("import pandas")
+def test_figures_of_senders_like_linux(program: Path, tmp_path: Path) -> None:
+    """The columns of the table before and after that `ccp` measures."""
+    wanted = [line.strip("|\n ").split(" | ") for line in PAGE.open(encoding="utf-8") if BEFORE_AND_AFTER.match(line)]
+    assert len(wanted) == 20
+    found: Dict[Tuple[str, str, str], Figures] = {}
+    for trace, queue, ms, sender, figure, *cells in wanted:
+        if (trace, queue, ms) not in found:
+            words = ["--queue", queue, "--delay-ms", ms, "--acks", 30000, EXAMPLES / "traces" / (trace + ".trace")]
+            found[trace, queue, ms] = measured(tmp_path, ["reno", "linux-reno", "cubic", "linux-cubic"], *words)
+        at = ["Mbit/s", "used %", "lost packets", "mean wait ms", "p95 wait ms"].index(figure)
+        rows = found[trace, queue, ms]
+        assert cells[:2] == [rows[trace, name].split()[at] for name in (sender, "linux-" + sender)], (trace, queue, ms)
 
 
 # ---- `highspeed` against a model of its RFC

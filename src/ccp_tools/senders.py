@@ -117,7 +117,8 @@ def check_labels(found: Sequence[Sender]) -> None:
 
 def add_senders(parser: argparse._ActionsContainer, most: int | None = None, required: bool = False) -> None:
     """Adds --senders LIST, as the list `arguments.senders` (None where it isn't given), and --portus NAME=FILE."""
-    what = "the senders, with commas between: %s" % ", ".join([*AGENTS, *LIKE_LINUX, "LABEL=PROGRAM", "LABEL=AGENT:PROGRAM"])
+    forms = [*AGENTS, *LIKE_LINUX, "LABEL=PROGRAM", "LABEL=AGENT:PROGRAM"]
+    what = "the senders, with commas between: %s" % ", ".join(forms)
     parser.add_argument("--senders", type=list_of(sender, most), required=required, metavar="LIST", help=what)
     add_portus(parser)
 
