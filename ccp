@@ -2,9 +2,10 @@
 # Runs ccp: `./ccp [OPTION].. MODE [FILE]..` runs a mode of the program, `./ccp COMMAND ..` a sub-command of the Python
 # package; see `./ccp --help`. Installed, it runs the program of PREFIX/libexec/ccp.
 #
-# Words are checked here first, in milliseconds. In a checkout the proved program answers, where it is built and no older
-# than its sources. Else the unproved program answers, which the toolchain compiles with checks in about two minutes and
-# which is kept. `./ccp --prove` proves and builds the program (tools/prove), and CCP_PROGRAM=PATH names another one.
+# Words are checked here first, in milliseconds. In a checkout the proved program answers: the one that `./ccp --prove`
+# built (tools/prove), where it is no older than its sources, else release/ccp, where it is of these sources. Else the
+# unproved program answers, which the toolchain compiles with checks in about two minutes and which is kept.
+# CCP_PROGRAM=PATH names another one.
 set -u
 here=${BASH_SOURCE[0]}
 if [ -L "$here" ]; then here=$(readlink -f "$here"); fi
@@ -18,6 +19,8 @@ case $here in
 esac
 launcher=$here/tools/launcher
 if [ ! -d "$launcher" ]; then launcher=${here%/*}/libexec/ccp/launcher; fi
+# a folder that is a link, as /bin
+if [ ! -d "$launcher" ]; then here=$(cd -P "$here" && pwd) launcher=${here%/*}/libexec/ccp/launcher; fi
 # shellcheck source=tools/launcher/tables.sh
 . "$launcher/tables.sh"
 # shellcheck source=tools/launcher/words.sh

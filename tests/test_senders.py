@@ -1,9 +1,11 @@
-"""examples/senders/ and the figures of docs/senders.md."""
+"""examples/senders/, examples/like-linux/, and the figures of docs/senders.md."""
 from __future__ import annotations
 
+import argparse
 import csv
 import io
 import json
+import re
 from pathlib import Path
 from typing import Dict, List, Tuple
 
@@ -12,11 +14,15 @@ from support import EXAMPLES, REPOSITORY, ccp, command, needs
 
 from ccp_tools import program as programs
 from ccp_tools import texts
+from ccp_tools.senders import LIKE_LINUX, PROGRAMS
+from ccp_tools.senders import sender as sender_of
 
 SENDERS = {path.stem: path for path in sorted((EXAMPLES / "senders").glob("*.portus"))}
+FOLDS = sorted((EXAMPLES / "like-linux").glob("*.portus"))
 PAGE = REPOSITORY / "docs" / "senders.md"
 TRACES = [EXAMPLES / "traces" / name for name in ("fixed.trace", "train.trace", "wave.trace")]
 HEAD = "| trace | sender | Mbit/s | used % | lost packets | delay ms | p95 ms |"
+BEFORE_AND_AFTER = re.compile(r"\| \w+ \| \d+ \| \d+ \| (reno|cubic) \| ")
 Figures = Dict[Tuple[str, str], str]
 
 
@@ -42,6 +48,59 @@ def test_no_sender_is_answered_or_faults(program: Path, mss: int) -> None:
     text = scenario_of(list(SENDERS), *grid, "--delay-ms", "0,20", "--acks", 400, *TRACES)
     for row in programs.run_table(text, program=program).rows:
         assert (row["held"], row["faults"], row["epochs"]) == (0, 0, 1), row
+
+
+# ---- senders like Linux
+
+
+@pytest.mark.parametrize("path", FOLDS, ids=lambda path: path.stem)
+def test_worked_folds_of_senders_like_linux(program: Path, path: Path) -> None:
+    given = path.read_text(encoding="utf-8") + "---\n" + path.with_suffix(".acks").read_text(encoding="utf-8")
+    assert ccp("fold", given=given).output == path.with_suffix(".out").read_text(encoding="utf-8")
+
+
+def test_the_package_has_the_programs_of_senders_like_linux() -> None:
+    assert [path.name for path in FOLDS] == sorted(path.name for path in PROGRAMS.iterdir())
+    for path in FOLDS:
+        assert (PROGRAMS / path.name).read_bytes() == path.read_bytes(), path.name
+
+
+def test_senders_like_linux_by_name(tmp_path: Path) -> None:
+    """Each by its name, with the texts of its programs, wherever the command runs."""
+    ran = command("scenario", "--senders", "linux-reno,mine=linux-cubic", TRACES[0], cwd=tmp_path)
+    assert ran.status == 0, ran.errors
+    made = json.loads(ran.output)
+    assert [[case.get(name) for name in ("sender", "agent", "ss", "ca")] for case in made["cases"]] == [
+        ["linux-reno", "reno", None, "linux-reno.ca"],
+        ["mine", "cubic", "mine.ss", "mine.ca"],
+    ]
+    names = {"linux-reno.ca": "reno_ca", "mine.ss": "cubic_ss", "mine.ca": "cubic_ca"}
+    for name, file in names.items():
+        assert made["programs"][name] == (PROGRAMS / (file + ".portus")).read_text(encoding="utf-8")
+
+
+@pytest.mark.parametrize("text", ["linux-reno=reno", "linux-cubic=delay.portus", "linux-reno:p", "linux-vegas"])
+def test_names_of_senders_like_linux_are_theirs(text: str) -> None:
+    with pytest.raises(argparse.ArgumentTypeError, match="linux-reno"):
+        sender_of(text)
+    assert sender_of("linux-reno=linux-reno") == LIKE_LINUX["linux-reno"]
+
+
+@pytest.mark.parametrize("mss", [1, 536, 65535])
+def test_senders_like_linux_never_fault(program: Path, mss: int) -> None:
+    grid = ["--mss", mss, "--queue", "1,100", "--mark", "none,3", "--losses", "none,0+1+2+3+4+5,rate:0.2:1"]
+    text = scenario_of(list(LIKE_LINUX), *grid, "--delay-ms", "0,20", "--acks", 400, *TRACES)
+    for row in programs.run_table(text, program=program).rows:
+        assert (row["held"], row["faults"]) == (0, 0), row
+
+
+def test_one_overflow_is_one_loss_event(program: Path) -> None:
+    """The overflow that ends slow start, of a queue shorter than the window: the losses are learned over more than a
+    round trip. The built-in programs cut thrice, a recovery point twice, and HyStart comes before the overflow."""
+    senders = ["reno", "linux-reno", "cubic", "linux-cubic"]
+    text = scenario_of(senders, "--queue", 50, "--delay-ms", 80, "--acks", 1200, TRACES[0])
+    rows = programs.run_table(text, program=program).rows
+    assert [(row["epochs"], row["lost"]) for row in rows] == [(4, 145), (3, 145), (4, 182), (2, 7)]
 
 
 # ---- the figures of the page
@@ -101,6 +160,22 @@ def test_figures_of_the_page(program: Path, tmp_path: Path) -> None:
         assert rows
         for trace, sender, *cells in rows:
             assert " ".join(cells) == figures[trace, sender], (trace, sender)
+
+
+@pytest.mark.slow
+@needs("import pandas")
+def test_figures_of_senders_like_linux(program: Path, tmp_path: Path) -> None:
+    """The columns of the table before and after that `ccp` measures."""
+    wanted = [line.strip("|\n ").split(" | ") for line in PAGE.open(encoding="utf-8") if BEFORE_AND_AFTER.match(line)]
+    assert len(wanted) == 20
+    found: Dict[Tuple[str, str, str], Figures] = {}
+    for trace, queue, ms, sender, figure, *cells in wanted:
+        if (trace, queue, ms) not in found:
+            words = ["--queue", queue, "--delay-ms", ms, "--acks", 30000, EXAMPLES / "traces" / (trace + ".trace")]
+            found[trace, queue, ms] = measured(tmp_path, ["reno", "linux-reno", "cubic", "linux-cubic"], *words)
+        at = ["Mbit/s", "used %", "lost packets", "mean wait ms", "p95 wait ms"].index(figure)
+        rows = found[trace, queue, ms]
+        assert cells[:2] == [rows[trace, name].split()[at] for name in (sender, "linux-" + sender)], (trace, queue, ms)
 
 
 # ---- `highspeed` against a model of its RFC

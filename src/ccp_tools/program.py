@@ -195,15 +195,13 @@ def identity(path: Path) -> Identity:
 
 
 def is_proved(path: Path) -> bool:
-    """Whether a program is the proved one: that of the checkout, which `./ccp --prove` and the tests build, where no
-    source is newer; or one that was installed beside its launcher."""
+    """Whether a program is the proved one: that of the checkout, which `./ccp --prove` and the tests build, or that of
+    release/, where it is of these sources; or one that was installed beside its launcher."""
     top = checkout()
     if top:
-        proved = top / "crates" / "ccp" / "out" / "ccp"
         command = [str(top / "tools" / "launcher" / "checked-program"), "--proved"]
-        if not (proved.exists() and path.samefile(proved)):
-            return False
-        return subprocess.run(command, stdin=subprocess.DEVNULL, stdout=subprocess.DEVNULL).returncode == 0
+        ran = subprocess.run(command, stdin=subprocess.DEVNULL, stdout=subprocess.PIPE, text=True)
+        return any(path.samefile(proved) for proved in ran.stdout.splitlines())
     return path.parent.name == "ccp" and path.parent.parent.name == "libexec"
 
 

@@ -17,7 +17,8 @@ them.
 Senders. --senders takes an agent, as `reno`, or one with your own programs: LABEL=PROGRAM runs a program in slow start
 and in congestion avoidance with Reno as the agent, `cubic:PROGRAM` has another agent, `reno:SLOW:AVOID` runs SLOW in
 slow start and AVOID in avoidance, and `reno::AVOID` runs the built-in one in slow start. LABEL= before any of these
-names the sender. A program is a file, or a name that --portus NAME=FILE gives.
+names the sender. A program is a file, or a name that --portus NAME=FILE gives. `linux-reno` and `linux-cubic` are these
+agents with programs like Linux's, which come with ccp (docs/senders.md).
 
 Losses. --losses takes `none`, numbers of packets as 17+40+900, or losses by chance: `rate:P` loses each packet with the
 chance P, and `gilbert:P:R` loses bursts: after a packet that came through the next one begins a burst with the chance

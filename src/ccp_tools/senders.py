@@ -3,6 +3,7 @@
 A sender is an agent, as `reno`, or an agent with programs of your own:
 
     AGENT                       reno or cubic, with the built-in programs
+    linux-reno, linux-cubic     these agents with programs that come with ccp, like those of Linux
     LABEL=PROGRAM               the program in slow start and in congestion avoidance, with Reno as the agent
     [LABEL=]AGENT:PROGRAM       the same with this agent
     [LABEL=]AGENT:SLOW:AVOID    a program for each; the built-in one where a program is left out, as in reno::AVOID
@@ -11,15 +12,18 @@ A PROGRAM is a name that --portus NAME=FILE gives, or a file."""
 from __future__ import annotations
 
 import argparse
-from dataclasses import dataclass
+from dataclasses import dataclass, replace
+from pathlib import Path
 from typing import Dict, List, Mapping, Sequence, Tuple
 
-from .arguments import Parse, add_portus, is_name, list_of, shown
+from .arguments import Parse, add_portus, is_name, list_of, one_of, shown
 from .errors import CcpError, UsageError
 from .files import read_text
 from .tables import AGENTS, LIMITS
 
-FORMS = "AGENT, LABEL=PROGRAM, [LABEL=]AGENT:PROGRAM and [LABEL=]AGENT:SLOW-START:AVOIDANCE"
+# the programs of examples/like-linux
+PROGRAMS = Path(__file__).resolve().parent / "like_linux"
+FORMS = "AGENT, linux-reno, linux-cubic, LABEL=PROGRAM, [LABEL=]AGENT:PROGRAM and [LABEL=]AGENT:SLOW-START:AVOIDANCE"
 
 
 @dataclass(frozen=True)
@@ -37,16 +41,33 @@ class Sender:
         return list(dict.fromkeys(name for name in (self.slow, self.avoid) if name))
 
 
+def program_of(name: str) -> str:
+    """The path of a program that comes with ccp."""
+    return str(PROGRAMS / (name + ".portus"))
+
+
+# senders that come with ccp, by their labels
+LIKE_LINUX = {
+    one.label: one
+    for one in (
+        Sender("linux-reno", "reno", None, program_of("reno_ca")),
+        Sender("linux-cubic", "cubic", program_of("cubic_ss"), program_of("cubic_ca")),
+    )
+}
+
+
 def sender(text: str) -> Sender:
     """A parser of one sender."""
     label, is_labelled, rest = text.partition("=")
     if not is_labelled:
         label, rest = "", text
-    elif not is_name(label) or label in AGENTS and rest != label:
-        names = " and ".join(AGENTS)
+    elif not is_name(label) or label in (*AGENTS, *LIKE_LINUX) and rest != label:
+        names = one_of([*AGENTS, *LIKE_LINUX])
         raise argparse.ArgumentTypeError(
             "%s: a label has 1 to 32 letters, digits, _, - and ., and isn't %s" % (shown(text), names)
         )
+    if rest in LIKE_LINUX:
+        return replace(LIKE_LINUX[rest], label=label or rest)
     agent, *programs = rest.split(":") if rest.split(":")[0] in AGENTS else ["reno", rest] if label else [rest]
     if agent not in AGENTS or len(programs) > 2 or (programs and not programs[-1]):
         accepted = "%s are accepted, where AGENT is %s" % (FORMS, " or ".join(AGENTS))
@@ -96,7 +117,8 @@ def check_labels(found: Sequence[Sender]) -> None:
 
 def add_senders(parser: argparse._ActionsContainer, most: int | None = None, required: bool = False) -> None:
     """Adds --senders LIST, as the list `arguments.senders` (None where it isn't given), and --portus NAME=FILE."""
-    what = "the senders, with commas between: %s" % ", ".join([*AGENTS, "LABEL=PROGRAM", "LABEL=AGENT:PROGRAM"])
+    forms = [*AGENTS, *LIKE_LINUX, "LABEL=PROGRAM", "LABEL=AGENT:PROGRAM"]
+    what = "the senders, with commas between: %s" % ", ".join(forms)
     parser.add_argument("--senders", type=list_of(sender, most), required=required, metavar="LIST", help=what)
     add_portus(parser)
 

@@ -6,6 +6,9 @@ run_command() {
     local package=$here/src interpreters=() one
     if [ ! -d "$package" ]; then
         package=${launcher%/launcher}/python
+        if [ ! -d "$package/ccp_tools" ]; then
+            fail "$1 is a command of the Python package ccp_tools, which isn't installed: apt-get install ccp-tools"
+        fi
         export CCP_PROGRAM=${CCP_PROGRAM:-$installed}
     fi
     for one in "${CCP_PYTHON:-}" "$here/.venv/bin/python3" python3 /usr/bin/python3; do

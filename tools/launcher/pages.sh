@@ -64,8 +64,8 @@ END_OF_PAGE
   fold PROGRAM ACKS and audit SCENARIO TEXT take two FILEs, which are joined by the line ---.
   MODE --help      what a mode reads and prints, and its options
   COMMAND --help   what a command does, and its arguments
-  --version, -V    the version, the commit, and the toolchain that proved the program
-  --prove          proves and builds the program; until then an unproved, checked run answers
+  --version, -V    the version, the commit, which program runs, and the toolchain that proved it
+  --prove          proves and builds the program; until then that of release/ answers, or an unproved, checked run
   CCP_PROGRAM=PATH names another program, and CCP_PYTHON=PATH another interpreter of Python
 
 Exit status of a mode: $(joined_by ', ' "${statuses[@]}").
@@ -99,18 +99,54 @@ page_of_version() {
     fi
 }
 
+# Which program would run in this checkout, and why.
 version_of_checkout() {
-    local version commit record=$proved.toolchain
+    name_of_version
+    if [ -n "${CCP_PROGRAM:-}" ]; then
+        echo "program: $CCP_PROGRAM, by CCP_PROGRAM"
+    elif is_current "$proved" "$kept/ccp"; then
+        echo "program: crates/ccp/out/ccp, $(proof_of "$proved"), and no source is newer"
+    elif is_released; then
+        echo "program: release/ccp, $(proof_of "$released"), of the sources that this checkout has"
+    else
+        echo "program: not proved: the unproved one, compiled with checks$(why_unproved); $called --prove proves and builds it"
+    fi
+}
+
+why_unproved() {
+    if [ "${finding%% *}" = bad ]; then
+        echo ", since ${finding#bad }"
+    elif [ "$finding" = older ]; then
+        echo ', since the one in release/ is of an older state of the sources'
+    elif [ -e "$proved" ]; then
+        echo ', since crates/ccp/out/ccp is older than its sources'
+    fi
+}
+
+# The version of the sources, and their commit.
+name_of_version() {
+    local version commit
     read -r version < "$here/VERSION"
     commit=$(git -C "$here" describe --always --dirty --exclude '*' 2>/dev/null) || commit='no commit known'
     echo "ccp $version ($commit)"
-    if [ -n "${CCP_PROGRAM:-}" ]; then
-        echo "program: $CCP_PROGRAM, by CCP_PROGRAM"
-    elif ! is_current "$proved" "$kept/ccp"; then
-        echo 'program: not proved yet, or older than its sources; ./ccp --prove proves and builds it'
-    elif [ -e "$record" ] && [ ! "$record" -ot "$proved" ]; then
-        echo "program: proved with $(cat "$record")"
+}
+
+# By which toolchain the program $1 was proved: $1 is that of this checkout, or has its bytes.
+proof_of() {
+    local record=$proved.toolchain
+    if is_same "$1" "$proved" && is_current "$proved" "$kept/ccp"; then
+        if [ -e "$record" ] && [ ! "$record" -ot "$proved" ]; then
+            echo "proved with $(cat "$record")"
+        else
+            echo "proved with $(rt version 2>/dev/null || echo 'a toolchain that is not here')"
+        fi
+    elif is_same "$1" "$released" && is_released; then
+        echo "proved with $(sed -n 's/^toolchain: //p' "$here/release/PROVENANCE")"
     else
-        echo "program: proved with $(rt version 2>/dev/null || echo 'a toolchain that is not here')"
+        echo 'of which no proof is known here'
     fi
+}
+
+is_same() {
+    [ "$1" = "$2" ] || cmp --silent "$1" "$2" 2>/dev/null
 }

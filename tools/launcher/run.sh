@@ -2,9 +2,11 @@
 # Chooses the program, and runs it on the words that were read, with the program's output, error line and status.
 
 proved=$here/crates/ccp/out/ccp
+# the proved program that comes with the sources
+released=$here/release/ccp
 # where what is built and what is known of it are kept: in the checkout, or, where that can't be written, in the cache
 kept=$here/crates/ccp/out
-if [ -d "$here/crates" ] && [ ! -w "$here/crates/ccp" ]; then
+if [ -d "$here/crates" ] && { [ ! -w "$here/crates/ccp" ] || { [ -e "$kept" ] && [ ! -w "$kept" ]; }; }; then
     kept=${XDG_CACHE_HOME:-${HOME:-/tmp}/.cache}/ccp/${here//\//%}
 fi
 # the unproved program, compiled with checks
@@ -67,10 +69,25 @@ choose_program() {
         if [ ! -x "$chosen" ]; then fail "there is no program at $chosen; CCP_PROGRAM=PATH names another"; fi
     elif is_current "$proved" "$kept/ccp"; then
         chosen=$proved
-    # a program that comes with the sources, as release/ccp, has its place here: where it is of these sources
+    elif is_released; then
+        chosen=$released
     else
         is_proved='' chosen=$checked
+        tell_bad_release
     fi
+}
+
+# Whether release/ has the program of these sources, in a good state. Sets `finding`.
+is_released() {
+    # shellcheck source=tools/launcher/release.sh
+    . "${launcher-$here/tools/launcher}/release.sh"
+    find_release
+    [ "$finding" = same ]
+}
+
+# Says what is wrong with the program in release/ and what to do, if it is in a bad state.
+tell_bad_release() {
+    if [ "${finding%% *}" = bad ]; then printf 'ccp: %s\n' "${finding#bad }" >&2; fi
 }
 
 prove() {

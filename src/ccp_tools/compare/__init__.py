@@ -7,8 +7,9 @@
 
 A sender is an agent, as `reno` or `cubic`, or a program of your own: NAME=FILE runs it in slow start and in congestion
 avoidance. NAME=cubic:FILE has CUBIC as the agent that answers its reports, and NAME=reno:SLOW-START:AVOIDANCE has a
-program for each; the built-in one is used where a file is left out, as in early=reno::examples/early.portus. At most 8
-senders are compared.
+program for each; the built-in one is used where a file is left out, as in early=reno::examples/early.portus. The
+senders linux-reno and linux-cubic have programs that come with ccp, and answer losses and end slow start as Linux does
+(docs/senders.md). At most 8 senders are compared.
 
 All senders of a trace are measured over the same seconds of it: --seconds S, else the length of the trace, at least 15
 s and at most what 65,536 acknowledgements reach. Each case has so many acknowledgements that no sender ends before S,

@@ -1,0 +1,376 @@
+"""Tests of the program in release/: which states of it the launcher runs, over a stub of the program; and what a new user
+of this checkout meets, over the program that is there."""
+from __future__ import annotations
+
+import hashlib
+import os
+import shutil
+import subprocess
+import tempfile
+import time
+from pathlib import Path
+from typing import Dict, Iterator, List
+
+import pytest
+from support import EXAMPLES, REPOSITORY, Ran, script
+
+# a program that says which one it is, and refuses missing words
+PROGRAM = "if [ $# = 0 ]; then echo 'ccp: words refused' >&2; exit 2; fi\necho \"$0 $*\"\n"
+# the header of a program for a processor that this machine hasn't
+OTHER_PROCESSOR = b"\x7fELF\x02\x01\x01" + bytes(9) + b"\x02\x00\xb7\x00\x01\x00\x00\x00" + bytes(40)
+PARTS = ["ccp", "VERSION", "HANDLES", "tools/install-ccp", "tools/completions", "docs/ccp.1"]
+
+
+def digest(path: Path) -> str:
+    """The SHA-256 of a file in hex."""
+    return hashlib.sha256(path.read_bytes()).hexdigest()
+
+
+class Place:
+    """A small repository with the launcher, three crates and a program in release/, and no toolchain on the PATH."""
+
+    def __init__(self, room: Path) -> None:
+        self.room, self.top, self.cache = room, room / "repository", room / "cache"
+        for name in PARTS:
+            (self.top / name).parent.mkdir(parents=True, exist_ok=True)
+            shutil.copy(REPOSITORY / name, self.top / name)
+        shutil.copytree(REPOSITORY / "tools" / "launcher", self.top / "tools" / "launcher")
+        self.write("crates.txt", "base: clap\nspare: base\nccp: base\n")
+        for name in ("base/src/lib.rt", "base/specs/Base.antt", "base/proofs/out/Base.antt", "ccp/src/main.rt"):
+            self.write("crates/" + name, "\n")
+        self.released = self.top / "release" / "ccp"
+        self.built = self.top / "crates" / "ccp" / "out" / "ccp"
+        self.checked = self.built.parent / "checked" / "ccp"
+        self.put(self.released)
+        self.note_release()
+
+    def write(self, name: str, text: str) -> None:
+        (self.top / name).parent.mkdir(parents=True, exist_ok=True)
+        (self.top / name).write_text(text, encoding="utf-8")
+
+    def put(self, path: Path) -> None:
+        """Puts the stub of the program there."""
+        path.parent.mkdir(parents=True, exist_ok=True)
+        script(path.parent, path.name, PROGRAM)
+        path.chmod(0o755)
+
+    def note_release(self) -> None:
+        """Writes what goes with the program in release/."""
+        self.write("release/SHA256SUMS", "%s  ccp\n" % digest(self.released))
+        self.write("release/PROVENANCE", "version: 0.9.0\nsources: %s\ntoolchain: stub-kit 1\n" % self.sum())
+
+    def sum(self) -> str:
+        return subprocess.check_output([str(self.top / "tools/launcher/source-sum")], text=True).strip()
+
+    def environment(self, **more: str) -> Dict[str, str]:
+        folders = [one for one in os.environ["PATH"].split(os.pathsep) if not os.path.exists(os.path.join(one, "rt"))]
+        kept = {name: value for name, value in os.environ.items() if name not in ("CCP_PROGRAM", "TMPDIR")}
+        path = os.pathsep.join([str(self.room / "bin"), *folders, "/usr/bin", "/bin"])
+        return {**kept, "PATH": path, "XDG_CACHE_HOME": str(self.cache), **more}
+
+    def run(self, *words: str, **more: str) -> Ran:
+        """Runs the launcher, as a user who can't write what is closed to them."""
+        as_user = ["setpriv", "--reuid=65534", "--regid=65534", "--clear-groups"] if more.pop("AS_USER", "") else []
+        done = subprocess.run(
+            [*as_user, str(self.top / "ccp"), *words],
+            input="",
+            stdout=subprocess.PIPE,
+            stderr=subprocess.PIPE,
+            text=True,
+            cwd=self.room,
+            env=self.environment(**more),
+        )
+        return Ran(done.stdout, done.stderr, done.returncode)
+
+    def check(self, **more: str) -> Ran:
+        return self.run("check", **more)
+
+    def is_released(self) -> bool:
+        """Whether the program of release/ answers, without a line on standard error."""
+        return self.check() == ("%s check\n" % self.released, "", 0)
+
+
+@pytest.fixture
+def place() -> Iterator[Place]:
+    """A Place in a folder that other users may enter."""
+    room = Path(tempfile.mkdtemp(prefix="release-"))
+    room.chmod(0o755)
+    yield Place(room)
+    subprocess.run(["chmod", "-R", "u+w", str(room)], check=True)
+    shutil.rmtree(room)
+
+
+# ---- which program runs
+
+
+def test_the_program_of_these_sources_answers_at_once(place: Place) -> None:
+    assert place.is_released() and place.is_released()
+    shown = place.run("--version")
+    assert shown.errors == "" and "program: release/ccp, proved with stub-kit 1" in shown.output
+
+
+def test_what_is_found_is_kept_by_the_times_of_files(place: Place) -> None:
+    """The SHA-256 over the sources and that of the program are worked out once for each change."""
+    calls = place.room / "calls"
+    (place.room / "bin").mkdir()
+    script(place.room / "bin", "sha256sum", 'echo "$*" >> %s\nexec /usr/bin/sha256sum "$@"\n' % calls)
+    assert place.is_released()
+    first = calls.read_text()
+    assert "--check" in first and place.is_released() and calls.read_text() == first
+    time.sleep(0.02)
+    place.released.touch()
+    assert place.is_released() and calls.read_text() != first
+
+
+def test_an_older_find_takes_no_list(place: Place) -> None:
+    (place.room / "bin").mkdir()
+    text = 'case $1 in -files0-from) echo "find: unknown predicate" >&2; exit 1 ;; esac\nexec /usr/bin/find "$@"\n'
+    script(place.room / "bin", "find", text)
+    assert place.is_released() and place.is_released()
+    time.sleep(0.02)
+    place.write("crates/base/src/lib.rt", "changed\n")
+    assert not place.is_released()
+
+
+def test_a_built_program_comes_first_and_a_named_one_before_all(place: Place) -> None:
+    time.sleep(0.02)
+    place.put(place.built)
+    assert place.check() == ("%s check\n" % place.built, "", 0)
+    named = place.room / "named"
+    place.put(named)
+    assert place.check(CCP_PROGRAM=str(named)) == ("%s check\n" % named, "", 0)
+    assert "program: %s, by CCP_PROGRAM" % named in place.run("--version").output
+    os.utime(place.built, (1, 1))
+    assert place.is_released(), "the built one is older than its sources"
+
+
+def change_in_place(place: Place) -> None:
+    """Another text of the same length, with the time of the old one."""
+    path = place.top / "crates/base/src/lib.rt"
+    times = path.stat()
+    path.write_text("x", encoding="utf-8")
+    os.utime(path, ns=(times.st_atime_ns, times.st_mtime_ns))
+
+
+CHANGES = {
+    "a source": lambda place: place.write("crates/base/specs/Base.antt", "changed\n"),
+    "a source with its old time": change_in_place,
+    "a new source": lambda place: place.write("crates/ccp/proofs/New.antt", "\n"),
+    "a removed source": lambda place: (place.top / "crates/base/specs/Base.antt").unlink(),
+    "a removed folder": lambda place: shutil.rmtree(place.top / "crates/base/specs"),
+    "a proof of a function out": lambda place: place.write("crates/base/proofs/out/Base.antt", "changed\n"),
+    "the list of crates": lambda place: place.write("crates.txt", "base: clap\nccp: base spare\nspare: base\n"),
+    "the handles": lambda place: place.write("HANDLES", "changed\n"),
+}
+
+
+@pytest.mark.parametrize("name", CHANGES)
+def test_changed_sources_are_not_those_of_the_program(place: Place, name: str) -> None:
+    kept = shutil.copytree(place.top, place.room / "kept", copy_function=shutil.copy)
+    assert place.is_released()
+    time.sleep(0.02)
+    CHANGES[name](place)
+    refused = place.check()
+    assert (refused.output, refused.status) == ("", 1)
+    assert refused.errors.startswith("ccp: release/ has the program of an older state of the sources")
+    assert "is of an older state" in place.run("--version").output
+    place.put(place.checked)
+    ran = place.check()
+    assert ran.output == "%s check\n" % place.checked and ran.status == 0
+    assert "unproved, checked run" in ran.errors and "release/ has the program of an older state" in ran.errors
+    assert ran.errors.count("\n") == 1
+    time.sleep(0.02)
+    shutil.rmtree(place.top / "crates")
+    shutil.copytree(kept / "crates", place.top / "crates")
+    for changed in ("crates.txt", "HANDLES"):
+        shutil.copy(kept / changed, place.top / changed)
+    assert place.is_released(), "the change is taken back"
+
+
+def test_a_crate_that_the_program_does_not_use_changes_nothing(place: Place) -> None:
+    assert place.is_released()
+    time.sleep(0.02)
+    place.write("crates/spare/src/lib.rt", "changed\n")
+    assert place.is_released()
+
+
+def test_without_a_release_all_is_as_before(place: Place) -> None:
+    shutil.rmtree(place.top / "release")
+    assert place.check().errors.startswith("ccp: there is no program yet, and no toolchain")
+    place.put(place.checked)
+    assert "release/" not in place.check().errors + place.run("--version").output
+
+
+# ---- bad states
+
+
+def cut_off(place: Place) -> None:
+    place.released.write_bytes(place.released.read_bytes()[:-9])
+
+
+def take_run_bit(place: Place) -> None:
+    place.released.chmod(0o644)
+
+
+def take_another_processor(place: Place) -> None:
+    place.released.write_bytes(OTHER_PROCESSOR)
+    place.note_release()
+
+
+def take_other_sums(place: Place) -> None:
+    place.write("release/SHA256SUMS", "%s  ccp\n" % ("0" * 64))
+
+
+def remove_program(place: Place) -> None:
+    place.released.unlink()
+
+
+def cut_provenance(place: Place) -> None:
+    place.write("release/PROVENANCE", "version: 0.9.0\n")
+
+
+BAD_STATES = [
+    (cut_off, "release/ccp doesn't have the SHA-256 of release/SHA256SUMS", "git checkout -- release"),
+    (take_other_sums, "release/ccp doesn't have the SHA-256 of release/SHA256SUMS", "git checkout -- release"),
+    (take_run_bit, "release/ccp has no run bit", "chmod +x release/ccp"),
+    (take_another_processor, "doesn't run on this machine", "./ccp --prove"),
+    (remove_program, "release/ccp is missing", "git checkout -- release"),
+    (cut_provenance, "release/PROVENANCE doesn't say of which sources", "git checkout -- release"),
+]
+
+
+@pytest.mark.parametrize("spoil, wrong, remedy", BAD_STATES)
+def test_a_bad_state_is_said_in_one_line(place: Place, spoil: object, wrong: str, remedy: str) -> None:
+    assert place.is_released() and callable(spoil)
+    time.sleep(0.02)
+    spoil(place)
+    for _ in range(2):
+        lines = place.check().errors.splitlines()
+        assert len(lines) == 2 and wrong in lines[0] and remedy in lines[0] and "no toolchain" in lines[1], lines
+    place.put(place.checked)
+    ran = place.check()
+    lines = ran.errors.splitlines()
+    assert ran.output == "%s check\n" % place.checked and ran.status == 0, "the unproved program goes on"
+    assert len(lines) == 2 and wrong in lines[0] and "unproved, checked run" in lines[1]
+    shown = place.run("--version")
+    assert wrong in shown.output and shown.errors == "" and shown.status == 0
+    time.sleep(0.02)
+    place.put(place.released)
+    place.note_release()
+    assert place.is_released(), "it is put right"
+
+
+@pytest.mark.skipif(os.geteuid() != 0 or shutil.which("setpriv") is None, reason="only root runs as another user")
+def test_a_checkout_that_cannot_be_written(place: Place) -> None:
+    place.cache.mkdir()
+    place.cache.chmod(0o777)
+    wanted = ("%s check\n" % place.released, "", 0)
+    assert place.check(AS_USER="yes") == wanted and place.check(AS_USER="yes") == wanted
+    assert list(place.cache.glob("ccp/*/release")), "the finding is in the cache"
+    ran = place.check(AS_USER="yes", XDG_CACHE_HOME="/proc")
+    assert ran.output == wanted[0] and ran.status == 0
+    assert ran.errors.count("\n") == 1 and "can't be written" in ran.errors and "XDG_CACHE_HOME=" in ran.errors
+
+
+# ---- what other scripts and the package take
+
+
+def test_the_package_takes_the_program(place: Place) -> None:
+    asked = [str(place.top / "tools/launcher/checked-program"), "--chosen"]
+    assert subprocess.check_output(asked, text=True, env=place.environment()) == "%s\n" % place.released
+    time.sleep(0.02)
+    place.put(place.built)
+    assert subprocess.check_output(asked, text=True, env=place.environment()) == "%s\n" % place.built
+    proved = subprocess.check_output([asked[0], "--proved"], text=True, env=place.environment())
+    assert proved == "%s\n%s\n" % (place.built, place.released)
+
+
+def test_install_takes_the_program(place: Place) -> None:
+    shutil.copytree(REPOSITORY / "src", place.top / "src", ignore=shutil.ignore_patterns("__pycache__"))
+    for name in ("LICENSE", "LICENSE-MIT", "LICENSE-APACHE"):
+        shutil.copy(REPOSITORY / name, place.top)
+    prefix = place.room / "prefix"
+    words = [str(place.top / "tools/install-ccp"), str(prefix)]
+    subprocess.run(words, check=True, stdout=subprocess.DEVNULL, env=place.environment())
+    installed = prefix / "libexec/ccp/ccp"
+    assert digest(installed) == digest(place.released)
+    assert "program: proved with stub-kit 1" in (prefix / "libexec/ccp/version").read_text()
+    take_run_bit(place)
+    refused = subprocess.run(words, stderr=subprocess.PIPE, text=True, env=place.environment())
+    assert refused.returncode == 1 and "chmod +x release/ccp" in refused.stderr
+
+
+# ---- a new user
+
+
+@pytest.fixture(scope="module")
+def clone(tmp_path_factory: pytest.TempPathFactory) -> Path:
+    """A fresh clone of this checkout, whose release/ has the program of its sources."""
+    folder = tmp_path_factory.mktemp("clone") / "ccp"
+    made = subprocess.run(["git", "clone", "--quiet", str(REPOSITORY), str(folder)], stderr=subprocess.PIPE, text=True)
+    if made.returncode:
+        pytest.skip("this checkout can't be cloned: %s" % made.stderr.strip())
+    provenance = folder / "release" / "PROVENANCE"
+    sources = subprocess.check_output([str(folder / "tools/launcher/source-sum")], text=True).strip()
+    if not provenance.is_file() or "sources: %s\n" % sources not in provenance.read_text(encoding="utf-8"):
+        pytest.skip("release/ has no program of these sources")
+    return folder
+
+
+def as_new_user(clone: Path, line: str, given: bytes = b"") -> Ran:
+    """Runs a line of bash at the top of the clone, without a toolchain on the PATH."""
+    folders = [one for one in os.environ["PATH"].split(os.pathsep) if not os.path.exists(os.path.join(one, "rt"))]
+    path = os.pathsep.join([*folders, "/usr/bin", "/bin"])
+    env = {name: value for name, value in os.environ.items() if not name.startswith("CCP_")}
+    done = subprocess.run(
+        ["bash", "-c", line],
+        input=given,
+        stdout=subprocess.PIPE,
+        stderr=subprocess.PIPE,
+        cwd=clone,
+        env={**env, "PATH": path, "PYTHONDONTWRITEBYTECODE": "1"},
+    )
+    return Ran(done.stdout.decode(), done.stderr.decode(), done.returncode)
+
+
+def test_the_first_command_answers_at_once(clone: Path) -> None:
+    ran = as_new_user(clone, "./ccp campaign examples/campaign.json")
+    assert ran == ((EXAMPLES / "campaign.out").read_text(encoding="utf-8"), "", 0)
+    assert "program: release/ccp, proved with" in as_new_user(clone, "./ccp --version").output
+
+
+def commands_of_readme() -> List[str]:
+    """The examples of README's table of modes."""
+    text = (REPOSITORY / "README.md").read_text(encoding="utf-8").partition("\n## Modes\n")[2].partition("\n## ")[0]
+    cells = [line.replace("\\|", "\0").split("|")[-2] for line in text.splitlines() if line.startswith("| `")]
+    return [cell.strip().strip("`").replace("\0", "|") for cell in cells]
+
+
+@pytest.mark.parametrize("line", commands_of_readme())
+def test_commands_of_readme(clone: Path, line: str) -> None:
+    ran = as_new_user(clone, line)
+    assert ran.output and (ran.errors, ran.status) == ("", 0)
+
+
+def lines_of_examples() -> List[str]:
+    """A line for each example: an input with the mode that reads it."""
+    modes = {"campaign.json": "campaign", "shared.json": "shared", "delay-shared.json": "shared"}
+    modes.update({"live.json": "timeline", "rollout.json": "rollout"})
+    lines = ["./ccp %s examples/%s" % (mode, name) for name, mode in modes.items()]
+    for path in sorted(EXAMPLES.rglob("*.portus")):
+        lines.append("./ccp check %s" % path.relative_to(REPOSITORY))
+    for path in sorted(EXAMPLES.glob("*.ccp")):
+        lines.append("./ccp fold %s" % path.relative_to(REPOSITORY))
+    for path in sorted((EXAMPLES / "like-linux").glob("*.acks")):
+        base = path.relative_to(REPOSITORY).with_suffix("")
+        lines.append("./ccp fold %s.portus %s.acks" % (base, base))
+    return lines
+
+
+@pytest.mark.parametrize("line", lines_of_examples())
+def test_each_example(clone: Path, line: str) -> None:
+    ran = as_new_user(clone, line)
+    assert ran.output and ran.status == 0 and ran.errors == ""
+    expected = (REPOSITORY / line.split()[2]).with_suffix(".out")
+    if expected.is_file() and line.split()[1] in ("campaign", "shared", "fold"):
+        assert ran.output == expected.read_text(encoding="utf-8")
