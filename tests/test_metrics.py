@@ -7,6 +7,7 @@ import math
 from pathlib import Path
 
 import pytest
+from inside import run_inside
 from support import command, needs, require, table_text
 
 pytestmark = needs("import pandas", "import scipy")
@@ -214,5 +215,5 @@ def test_the_command(files):
     ],
 )
 def test_what_the_command_refuses(files, words, status, error):
-    made = command("metrics", files["scenario"], *(word.format(**files) for word in words))
+    made = run_inside("metrics", files["scenario"], *(word.format(**files) for word in words))
     assert (made.status, made.output) == (status, "") and error in made.errors and "Traceback" not in made.errors

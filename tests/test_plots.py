@@ -6,6 +6,7 @@ import re
 from pathlib import Path
 
 import pytest
+from inside import run_inside
 from support import EXAMPLES, command, needs, require
 
 pytestmark = needs("import matplotlib", "import pandas")
@@ -101,7 +102,7 @@ def texts_of(path: Path):
 )
 def test_each_kind_in_each_form(files, tmp_path, words):
     plain = [tmp_path / ("plot" + kind) for kind in BEGINNINGS]
-    made = command("plot", *(word.format(**files) for word in words.split()), *plain)
+    made = run_inside("plot", *(word.format(**files) for word in words.split()), *plain)
     assert made.status == 0, made.errors
     for path in plain:
         assert path.read_bytes().startswith(BEGINNINGS[path.suffix]) and path.stat().st_size > 2000
@@ -186,8 +187,9 @@ def test_a_line_breaks_where_reports_were_held_and_in_a_gap():
         ("bars {metrics} /nowhere/plot.svg", 1, "/nowhere/plot.svg: "),
     ],
 )
-def test_what_plots_refuse(files, tmp_path, words, status, error):
-    made = command("plot", *(word.format(**files) for word in words.split()), cwd=tmp_path)
+def test_what_plots_refuse(files, tmp_path, monkeypatch, words, status, error):
+    monkeypatch.chdir(tmp_path)
+    made = run_inside("plot", *(word.format(**files) for word in words.split()))
     assert made.status == status and error in made.errors and "Traceback" not in made.errors, made.errors
 
 
