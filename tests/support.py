@@ -1,6 +1,7 @@
 """What tests call: commands, the program, texts to read, and the needs of a test."""
 from __future__ import annotations
 
+import importlib
 import os
 import stat
 import subprocess
@@ -21,6 +22,17 @@ TRACES = [EXAMPLES / "traces" / (name + ".trace") for name in ("fixed", "wave", 
 def needs(*names: str) -> pytest.MarkDecorator:
     """Marks a test that uses commands, as "gnuplot", or modules of Python, as "import pandas"."""
     return pytest.mark.needs(*names)
+
+
+def require(name: str) -> Any:
+    """A module that all tests of a file use. Without it they are skipped, or with CCP_STRICT=1 fail."""
+    try:
+        return importlib.import_module(name)
+    except ImportError:
+        reason = "%s isn't installed" % name
+        if os.environ.get("CCP_STRICT") == "1":
+            pytest.fail("%s: tools/install --tests" % reason, pytrace=False)
+        pytest.skip(reason, allow_module_level=True)
 
 
 class Ran(NamedTuple):

@@ -9,10 +9,10 @@ import shutil
 from pathlib import Path
 
 import pytest
-from support import EXAMPLES, TRACES, command, needs, ran
+from support import EXAMPLES, TRACES, command, needs, ran, require
 
 pytestmark = needs("import matplotlib", "import pandas", "import jinja2")
-pytest.importorskip("matplotlib")
+require("matplotlib")
 
 from ccp_tools.compare import cases  # noqa: E402
 from ccp_tools.compare.cases import Comparison, Queue  # noqa: E402

@@ -62,8 +62,16 @@ def check_end(name: str, status: int, output: str, errors: str) -> None:
         assert lines[-1].startswith("ccp %s: " % name), errors
 
 
-@pytest.mark.parametrize("content", CONTENTS)
-@pytest.mark.parametrize("name, words", CASES)
+# a trace of one number is a trace, which is compared as in test_compare.py
+HOSTILE = [
+    (name, words, content)
+    for name, words in CASES
+    for content in CONTENTS
+    if (name, content) != ("compare", "one number")
+]
+
+
+@pytest.mark.parametrize("name, words, content", HOSTILE)
 def test_a_file_of_anything(
     program: Path, tmp_path: Path, capsys: pytest.CaptureFixture[str], name: str, words: List[str], content: str
 ) -> None:

@@ -7,10 +7,10 @@ import math
 from pathlib import Path
 
 import pytest
-from support import command, needs, table_text
+from support import command, needs, require, table_text
 
 pytestmark = needs("import pandas", "import scipy")
-pd = pytest.importorskip("pandas")
+pd = require("pandas")
 
 from ccp_tools import frames, metrics, texts  # noqa: E402
 from ccp_tools.errors import BadText, CcpError  # noqa: E402

@@ -2,7 +2,6 @@
 from __future__ import annotations
 
 import contextlib
-import importlib.util
 import io
 import json
 import os
@@ -142,7 +141,6 @@ def test_metrics_of_parts_are_one_table(tmp_path: Path) -> None:
 
 
 @needs("parallel", "import pandas", "import scipy")
-@pytest.mark.skipif(importlib.util.find_spec("ccp_tools.metrics") is None, reason="no metrics yet")
 def test_metrics_are_worked_out_in_the_parts(tmp_path: Path, program: Path) -> None:
     path = saved(tmp_path, grid({"wave": TEXTS["wave"]}, [10, 20], 60))
     texts = []

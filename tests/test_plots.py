@@ -6,11 +6,11 @@ import re
 from pathlib import Path
 
 import pytest
-from support import EXAMPLES, command, needs
+from support import EXAMPLES, command, needs, require
 
 pytestmark = needs("import matplotlib", "import pandas")
-pytest.importorskip("matplotlib")
-pd = pytest.importorskip("pandas")
+require("matplotlib")
+pd = require("pandas")
 
 from ccp_tools import plots  # noqa: E402
 from ccp_tools.errors import CcpError  # noqa: E402

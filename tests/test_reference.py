@@ -10,7 +10,7 @@ from random import Random
 from typing import Any, Callable, Dict
 
 import pytest
-from support import EXAMPLES, REPOSITORY, ran
+from support import EXAMPLES, REPOSITORY, ran, require
 
 from ccp_tools import program as programs
 from ccp_tools import reference
@@ -18,7 +18,7 @@ from ccp_tools.reference import generate, inputs, language, syntax
 from ccp_tools.reference.flow import TEXTS
 from ccp_tools.tables import AGENTS, BUILT_INS
 
-hypothesis = pytest.importorskip("hypothesis")
+hypothesis = require("hypothesis")
 from hypothesis import HealthCheck, given, seed, settings, strategies  # noqa: E402
 
 OF_MODES: Dict[str, Callable[[Any], str]] = {

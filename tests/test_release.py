@@ -1,5 +1,5 @@
-"""Tests of the program in release/: which states of it the launcher runs, over a stub of the program; and what a new user
-of this checkout meets, over the program that is there."""
+"""Tests of the program in release/: which states of it the launcher runs, over a stub of the program; and what a new
+user of this checkout meets, over the program that is there."""
 from __future__ import annotations
 
 import hashlib
