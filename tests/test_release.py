@@ -1,5 +1,5 @@
-"""Tests of the program in release/: which states of it the launcher runs, over a stub of the program; and what a new user
-of this checkout meets, over the program that is there."""
+"""Tests of the program in release/: which states of it the launcher runs, over a stub of the program; and what a new
+user of this checkout meets, over the program that is there."""
 from __future__ import annotations
 
 import hashlib
@@ -139,7 +139,7 @@ def test_a_built_program_comes_first_and_a_named_one_before_all(place: Place) ->
     named = place.room / "named"
     place.put(named)
     assert place.check(CCP_PROGRAM=str(named)) == ("%s check\n" % named, "", 0)
-    assert "program: %s, by CCP_PROGRAM" % named in place.run("--version").output
+    assert "program: %s, by CCP_PROGRAM" % named in place.run("--version", CCP_PROGRAM=str(named)).output
     place.built.unlink()
     assert place.is_released(), "no other one is there"
 
