@@ -139,9 +139,9 @@ def test_a_built_program_comes_first_and_a_named_one_before_all(place: Place) ->
     named = place.room / "named"
     place.put(named)
     assert place.check(CCP_PROGRAM=str(named)) == ("%s check\n" % named, "", 0)
-    assert "program: %s, by CCP_PROGRAM" % named in place.run("--version").output
-    os.utime(place.built, (1, 1))
-    assert place.is_released(), "the built one is older than its sources"
+    assert "program: %s, by CCP_PROGRAM" % named in place.run("--version", CCP_PROGRAM=str(named)).output
+    place.built.unlink()
+    assert place.is_released(), "no other one is there"
 
 
 def change_in_place(place: Place) -> None:

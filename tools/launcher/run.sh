@@ -79,7 +79,7 @@ choose_program() {
 
 # Whether release/ has the program of these sources, in a good state. Sets `finding`.
 is_released() {
-    # shellcheck source=tools/launcher/release.sh
+    # shellcheck source=/dev/null
     . "${launcher-$here/tools/launcher}/release.sh"
     find_release
     [ "$finding" = same ]
