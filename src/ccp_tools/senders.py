@@ -14,7 +14,7 @@ from __future__ import annotations
 import argparse
 from dataclasses import dataclass, replace
 from pathlib import Path
-from typing import Dict, List, Mapping, Sequence, Tuple
+from typing import Dict, List, Sequence, Tuple
 
 from .arguments import Parse, add_portus, is_name, list_of, one_of, shown
 from .errors import CcpError, UsageError
@@ -158,21 +158,3 @@ def text_of_program(one: Sender, program: str) -> str:
             more = "no --portus has the name %s, and there is no such file" % program
             raise CcpError("the sender %s: %s" % (one.label, more if "No such file" in str(error) else error)) from None
         raise
-
-
-def words_of(found: Sequence[Sender]) -> str:
-    """Senders as --senders takes them."""
-    words = []
-    for one in found:
-        if not one.programs():
-            words.append(one.agent)
-        elif one.slow == one.avoid:
-            words.append("%s=%s:%s" % (one.label, one.agent, one.avoid))
-        else:
-            words.append("%s=%s:%s:%s" % (one.label, one.agent, one.slow or "", one.avoid))
-    return ",".join(words)
-
-
-def portus_words(texts: Mapping[str, str]) -> List[str]:
-    """The options --portus for files by their names."""
-    return [word for name, path in texts.items() for word in ("--portus", "%s=%s" % (name, path))]
