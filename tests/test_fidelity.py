@@ -15,7 +15,7 @@ from ccp_tools.metrics import Link, figures_of_acks  # noqa: E402
 from fidelity import cases, kernel, limits, logs, model, pages, results  # noqa: E402
 
 KEPT = REPOSITORY / "bench" / "fidelity" / "results.csv"
-PAGE = REPOSITORY / "docs" / "fidelity.md"
+PAGES = ["fidelity.md", "senders.md"]
 CASE = cases.Case("fixed", 2, 20, "reno", segments=3)
 # three segments; the second is lost and sent again, and the first is served a second time
 LOG = "0 100 1000\n10 200 -1\n1000 300 0\n21000 200 500\n22000 100 0\n23000 400 0\n"
@@ -143,16 +143,23 @@ def test_kept_figures_are_whole():
         assert len(counts) == 18 * len(senders)
 
 
-def test_page_is_made_of_kept_figures():
+@pytest.mark.parametrize("name", PAGES)
+def test_page_is_made_of_kept_figures(name):
     frame = results.read(KEPT)
     found = limits.findings(frame, limits.reference_of(frame))
-    text = PAGE.read_text()
-    assert pages.with_sections(text, pages.sections(frame, found), "page") == text, "bench/fidelity/run --kept .. --page"
+    text = (REPOSITORY / "docs" / name).read_text()
+    assert pages.with_sections(text, pages.sections(frame, found), name) == text, "bench/fidelity/run --kept .. --page"
 
 
 def test_page_needs_its_marks():
-    with pytest.raises(CcpError, match="expected once"):
-        pages.with_sections("# page\n", {"grid": "x"}, "page")
+    mark = pages.MARK % "grid"
+    assert pages.with_sections("a\n%s\nold\n%s\nb\n" % (mark, pages.END), {"grid": "new\n"}, "x") == "a\n%s\nnew\n%s\nb\n" % (
+        mark,
+        pages.END,
+    )
+    for text in ("# page\n", mark + "\n"):
+        with pytest.raises(CcpError, match="is expected"):
+            pages.with_sections(text, {"grid": "x"}, "page")
 
 
 def test_other_files_are_refused(tmp_path):

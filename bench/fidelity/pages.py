@@ -2,7 +2,6 @@
 
 from __future__ import annotations
 
-import re
 from pathlib import Path
 from typing import Any, Dict, Iterable, List, Mapping, Sequence, Tuple
 
@@ -78,22 +77,44 @@ def limits(found: Sequence[Finding]) -> str:
     return table(["Limit", "Sender", "Holds in", "Not in"], rows)
 
 
+def before_and_after(frame: pd.DataFrame) -> str:
+    """What the senders like Linux's change: the losses of CUBIC, and the waits of Reno on a varying link."""
+    figures, rows = Figures(frame), []
+    shown = [("fixed", "cubic", "lost"), ("wave", "cubic", "lost")]
+    shown += [("wave", "reno", "queueing_mean_ms"), ("wave", "reno", "queueing_p95_ms")]
+    heads, forms = dict(zip(map(first, SHOWN), HEADS)), dict(SHOWN)
+    for trace, algorithm, name in shown:
+        for cell in cells_of(frame):
+            if cell[0] == trace:
+                texts = [
+                    value_text(figures, stack, sender % algorithm, cell, name, forms[name]) for stack, sender in SENDERS
+                ]
+                rows.append([*map(str, cell), algorithm, heads[name], *texts])
+    own = ["built-in", "like Linux", "ns-3", "Linux"]
+    return table(["trace", "queue", "ms", "sender", "figure", *own], rows)
+
+
+def first(pair: Tuple[str, str]) -> str:
+    return pair[0]
+
+
 def sections(frame: pd.DataFrame, found: Sequence[Finding]) -> Dict[str, str]:
-    """The parts of docs/fidelity.md that are made of the figures."""
-    return {"grid": grid(frame, [100]), "limits": limits(found), "orders": orders(found)}
+    """The parts of pages that are made of the figures, by their names."""
+    made = {"grid": grid(frame, [100]), "limits": limits(found), "orders": orders(found)}
+    return {**made, "before and after": before_and_after(frame)}
 
 
 def with_sections(text: str, made: Mapping[str, str], place: str) -> str:
-    """A page whose parts between their marks are replaced."""
-    for name, part in made.items():
-        mark = MARK % name
-        if text.count(mark) != 1:
-            raise CcpError("%s: the line %s is expected once" % (place, mark))
-        text = re.sub(
-            "(?s)" + re.escape(mark) + "\n.*?" + re.escape(END),
-            lambda _, all=mark + "\n" + part + END: all,  # type: ignore[misc]
-            text,
-        )
+    """A page whose parts between their marks are replaced. A page without a mark is a CcpError."""
+    names = [name for name in made if MARK % name in text]
+    if not names:
+        raise CcpError("%s: a line as %s is expected" % (place, MARK % next(iter(made))))
+    for name in names:
+        before, mark, rest = text.partition(MARK % name + "\n")
+        _, end, after = rest.partition(END)
+        if not end:
+            raise CcpError("%s: the line %s is expected after %s" % (place, END, MARK % name))
+        text = before + mark + made[name] + end + after
     return text
 
 
