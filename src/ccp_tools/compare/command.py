@@ -245,7 +245,7 @@ def run(arguments: argparse.Namespace) -> int:
     scenario = grid.scenario()
     check_longest(scenario)
     if not arguments.quiet:
-        for text in grid.notes:
+        for text in [*grid.notes, *report.gap_warnings(scenario)]:
             warn(text)
     path = program.find_program(arguments.ccp)
     if arguments.dry_run:
