@@ -141,12 +141,28 @@ def named_in(one: Sender, role: str, texts: Dict[str, str]) -> str | None:
     program = getattr(one, role)
     if program is None or program in texts:
         return program
-    name = one.label if one.slow == one.avoid else "%s.%s" % (one.label, "ss" if role == "slow" else "ca")
+    name = name_in(one, role)
     text = text_of_program(one, program)
     if not is_name(name) or texts.get(name, text) != text:
         raise CcpError("the sender %s: its program needs a name of its own: --portus NAME=%s" % (one.label, program))
     texts[name] = text
     return name
+
+
+def name_in(one: Sender, role: str) -> str:
+    """The name of a program that a sender's file in a role gets."""
+    return one.label if one.slow == one.avoid else "%s.%s" % (one.label, "ss" if role == "slow" else "ca")
+
+
+def files_of(found: Sequence[Sender], portus: Sequence[Tuple[str, str]]) -> Dict[str, str]:
+    """The files of programs, by the names that `resolved` gives their texts."""
+    files = dict(portus)
+    for one in found:
+        for role in ("slow", "avoid"):
+            program = getattr(one, role)
+            if program and program not in files:
+                files[name_in(one, role)] = program
+    return files
 
 
 def text_of_program(one: Sender, program: str) -> str:

@@ -287,6 +287,7 @@ class Page:
     windows: Mapping[str, Window]
     path: Path
     sharings: Sequence[shared.Sharing] = ()
+    remarks: Sequence[str] = ()
 
     @property
     def rows(self) -> List[Row]:
@@ -322,6 +323,7 @@ class Page:
             overall_heads=[SHOWN[name].label for name in OVERALL],
             shared=shared.table_of(self.sharings),
             shared_heads=shared.HEADS,
+            shared_rounds=", ".join("%s %g ms" % (one.trace, one.quantum_us / 1000) for one in self.sharings),
             fair=shared.FAIR,
             counts=metrics.rows_of(self.frame[["case", *COUNTED, "doubts"]]),
             count_heads=COUNTED,
@@ -337,6 +339,7 @@ class Page:
         """What a reader has to know before the figures."""
         found = ["%s: %s" % (place_of(row), row.doubts) for row in rows if row.doubts]
         found += slow_start.note_of(*marks_of(self.frame))
+        found += [*self.remarks, *(text for one in self.sharings for text in one.doubts)]
         if metrics.spans_differ(self.frame):
             found.append("Senders are measured over different spans, so their figures aren't comparable as they stand.")
         return found
@@ -344,16 +347,17 @@ class Page:
     def conditions(self) -> List[Tuple[str, str]]:
         """The conditions of the comparison, each with its values."""
         shown = [
-            ("queue [packets]", "queue", 1),
-            ("delay from chance to acknowledgement [ms]", "delay_ms", 1),
-            ("losses beside those of the queue", "loss", 1),
-            ("seeds", "seed", 1),
-            ("marks from [waiting packets]", "mark", 1),
-            ("segment [bytes]", "mss", 1),
-            ("timeout [ms]", "timeout_ms", 1),
-            ("answer's lag [acknowledgements]", "lag", 1),
+            ("delay from chance to acknowledgement [ms]", "delay_ms"),
+            ("losses beside those of the queue", "loss"),
+            ("seeds", "seed"),
+            ("marks from [waiting packets]", "mark"),
+            ("timeout [ms]", "timeout_ms"),
+            ("answer's lag [acknowledgements]", "lag"),
         ]
-        made = [(head, values_of(self.frame[name])) for head, name, _ in shown]
+        made = [("queue [packets]", self.queues()), *((head, values_of(self.frame[name])) for head, name in shown)]
+        many = self.arguments.aggregate or 1
+        size = values_of(self.frame["mss"] // many)
+        made.append(("segment [bytes]", size if many == 1 else "%s, %d in a packet" % (size, many)))
         spans = []
         for name, window in self.windows.items():
             measured = self.frame[self.frame["trace"] == name]["span_s"]
@@ -363,6 +367,11 @@ class Page:
             spans.append("%s: %s%s" % (name, begin, length))
         gaps = [("gaps", text) for text in gap_warnings(self.scenario)]
         return [("measured [s of virtual time]", ", ".join(spans)), *made, *gaps]
+
+    def queues(self) -> str:
+        """The queues in packets, after how they were asked for where that was in other units."""
+        asked = [queue.label for queue in self.arguments.queue_ms or self.arguments.queue or [] if not queue.packets]
+        return ": ".join([*([", ".join(asked)] if asked else []), values_of(self.frame["queue"])])
 
     def cells(self, rows: Sequence[Row], row: Row) -> Dict[str, Any]:
         cells = [
@@ -375,7 +384,7 @@ class Page:
         made = []
         for name, text in self.scenario["traces"].items():
             trace = Trace(trace_times(text, name))
-            rate = 12 * len(trace.times) / trace.times[-1]
+            rate = 12 * len(trace.times) * (self.arguments.aggregate or 1) / trace.times[-1]
             made.append(
                 {"name": name, "rate": rate, "length": trace.times[-1] / 1000, "gap": max(gaps_of(trace.times)), "sha256": sha256(text)}
             )
