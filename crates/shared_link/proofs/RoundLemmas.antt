@@ -125,7 +125,7 @@ module _ (case : SharedCase) (trace : IsTrace case.trace) where
   IsSettled run = Settled case (round_time case run.rounds) run.sent run.givens
 
   pub settled-sent : (asks : List Ask) (run : SharedLinkRun) → IsSettled run → Settled case (round_time case run.rounds) (sent_by case asks run) run.givens
-  settled-sent asks run settled = settled-turns case trace (round_time case run.rounds) run.givens (allowed case asks) most_flight run.sent settled
+  settled-sent asks run settled = settled-turns case trace (round_time case run.rounds) run.givens (allowed case (round_time case run.rounds) asks) most_flight run.sent settled
 
   next_round : (rounds : ℕ) → round_time case rounds ≤ round_time case (rounds + 1)
   next_round rounds = omega arith

@@ -5,7 +5,7 @@ use Rattle.link_model.specs.Link.{acked_of}
 use Rattle.link_model.specs.Counts.{served_chances, lost_of}
 use Rattle.shared_link.specs.declared.shared_case.SharedCase.{SharedCase}
 use Rattle.shared_link.specs.declared.round.Ask.{Ask}
-use Rattle.shared_link.specs.SharedRounds.{SharedLinkRun, every_packet, own_packets, own_flight, allowed, some_lacks, sent_by, with_round, shared_run_from, shared_run_of, first_run}
+use Rattle.shared_link.specs.SharedRounds.{SharedLinkRun, every_packet, own_packets, own_flight, allowed, some_lacks, round_time, sent_by, with_round, shared_run_from, shared_run_of, first_run}
 
 -- no chance serves two packets: each packet's comes after that of the one before
 abbrev pub AreOnce : SharedLinkRun → Type 0
@@ -20,7 +20,8 @@ AddUp run flow =
 -- after the sending of one more round no flow has fewer packets in flight than it may have
 abbrev pub NoneLacks : SharedCase → List Ask → SharedLinkRun → Type 0
 NoneLacks case asks run =
-    some_lacks (allowed case asks) run.givens (length case.flows) (sent_by case asks run) ≡ false
+    some_lacks (allowed case (round_time case run.rounds) asks) run.givens (length case.flows) (sent_by case asks run)
+    ≡ false
 
 pub shared_run_from-push : (case : SharedCase) (rounds : List (List Ask)) (asks : List Ask) (run : SharedLinkRun)
     → shared_run_from case run (rounds ++ asks ∷ []) ≡ with_round case asks (shared_run_from case run rounds)
