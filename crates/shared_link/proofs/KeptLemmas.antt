@@ -304,4 +304,4 @@ module _ (times : List ℕ) (trace : IsTrace times) (link : FlowLink) (end past 
       let go : GivenAck → List GivenAck = λ given. given ∷ answers times link end packets left (given ∷ givens) in
       kept-next left acks givens settled (λ more given after. kept-answers left more (given ∷ givens) after) (next_arrival flight) refl
       (matches times trace link past packets givens settled) (next_below (length packets) flight settled.below)
-      ∙ ap (λ n. come_to acks givens settled (answers_after times link end packets givens flight n go)) (sym (next_before_of times trace link.delay_us end 0 flight settled.arriving))
+      ∙ ap (λ n. come_to acks givens settled (answers_after times link end packets givens flight n go)) (sym (next_before_of times trace link.delay_us end (time_of givens) flight settled.arriving))

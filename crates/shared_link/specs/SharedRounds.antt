@@ -125,8 +125,8 @@ next_before times delay end [] = all_lost
 next_before times delay end (sent ∷ rest) =
     next_where times delay end sent.number sent.packet.sent_at sent.packet.fate (next_before times delay end rest)
 
--- an acknowledgement whose two rates are over the time since its flow's start, of `acked` packets of `mss` bytes that
--- were acknowledged so far and `sent` that were sent: both are 0 until then
+-- an acknowledgement with its two rates over the time since the start of its flow, of whose packets, `mss` bytes each,
+-- `acked` were acknowledged so far and `sent` were sent
 abbrev pub since_start : ℕ → ℕ → ℕ → ℕ → Ack → Ack
 since_start mss start acked sent ack = record ack {
   rate_incoming = byte_rate mss acked (ack.now - start);
