@@ -3,7 +3,7 @@ use Rattle.std.specs.Prelude.{◌≡◌, ℕ, ◌+◌, ◌<◌, ◌≤◌, Bool,
 use Rattle.std.specs.List.Sorted.{IsStrictlyIncreasing}
 use Rattle.ccp_base.specs.declared.ack.Ack.{Ack}
 use Rattle.link_model.specs.declared.past.Past.{Past}
-use Rattle.link_model.specs.Link.{GivenAck, allowance_of, time_of, past_of, acked_of, arrival_ack_of, timeout_ack_of}
+use Rattle.link_model.specs.Link.{Packet, GivenAck, allowance_of, time_of, past_of, acked_of, arrival_ack_of, timeout_ack_of}
 use Rattle.link_model.specs.Counts.{served_chances, lost_of}
 use Rattle.shared_link.specs.declared.shared_case.SharedCase.{SharedCase}
 use Rattle.shared_link.specs.declared.round.Ask.{Ask}
@@ -32,6 +32,11 @@ abbrev pub WaitsForStart : SharedCase → List Ask → SharedLinkRun → ℕ →
 WaitsForStart case asks run flow =
     round_time case run.rounds < (flow_link_at case flow).start_us
     → own_packets flow (sent_by case asks run) ≡ own_packets flow run.sent
+
+-- packets were sent at this time or later
+abbrev pub AreSentFrom : ℕ → List Packet → Type 0
+AreSentFrom from [] = Unit {0}
+AreSentFrom from (packet ∷ earlier) = (from ≤ packet.sent_at) × AreSentFrom from earlier
 
 -- a flow that starts at time 0 may have as many packets in flight as its window allows, and none if it has no
 -- acknowledgement left

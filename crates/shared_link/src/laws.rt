@@ -2,8 +2,8 @@
 //! flow sends before its start, and acknowledgements come in the order of time.
 ghost use Rattle.std.specs.Prelude.{◌≡◌, ℕ, List};
 ghost use Rattle.shared_link.specs.declared.round.Ask.{Ask};
-ghost use Rattle.shared_link.specs.SharedRounds.{flow_link_at, shared_run_of};
-ghost use Rattle.shared_link.specs.SharedLaws.{AreOnce, AddUp, NoneLacks, WaitsForStart, MaySendAtOnce, AreOverLinkTime, AreInOrder, AreSampled};
+ghost use Rattle.shared_link.specs.SharedRounds.{flow_link_at, own_packets, shared_run_of};
+ghost use Rattle.shared_link.specs.SharedLaws.{AreOnce, AddUp, NoneLacks, WaitsForStart, AreSentFrom, MaySendAtOnce, AreOverLinkTime, AreInOrder, AreSampled};
 
 use crate::shared_case::SharedCase;
 
@@ -27,11 +27,14 @@ impl SharedCase {
     }
 
     /// What a flow's start changes. After every list of rounds, whatever the flows ask for, no flow sends a packet in
-    /// one more round if the round's time is before the flow's start. A flow that starts at time 0 may have as many
-    /// packets in flight as if there were no starts, and its acknowledgements have the rates of a link with one flow.
+    /// one more round if the round's time is before the flow's start. So each packet was sent at its flow's start or
+    /// later. A flow that starts at time 0 may have as many packets in flight as if there were no starts, and its
+    /// acknowledgements have the rates of a link with one flow.
     pub fn start_law(&self)
         ensures waits { (rounds : List (List Ask)) (asks : List Ask) (flow : ℕ)
             → WaitsForStart self.now asks (shared_run_of self.now rounds) flow }
+        ensures sent { (rounds : List (List Ask)) (flow : ℕ) → AreSentFrom (flow_link_at self.now flow).start_us
+            (own_packets flow (shared_run_of self.now rounds).sent) }
         ensures allowance { (now : ℕ) (asks : List Ask) (flow : ℕ) → MaySendAtOnce self.now now asks flow }
         ensures rates { (mss : ℕ) → AreOverLinkTime mss }
     {
