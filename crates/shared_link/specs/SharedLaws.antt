@@ -46,7 +46,7 @@ MaySendAtOnce case now asks flow =
     → allowed case now asks flow
     ≡ (if (ask_at asks flow).left == 0 then 0 else allowance_of (flow_link_at case flow).mss (ask_at asks flow).window)
 
--- from time 0 on the rates of acknowledgements are those of a link with one flow
+-- an acknowledgement of a flow that starts at time 0 is the one without a start, with its rates over the link's time
 pub record AreOverLinkTime (mss : ℕ) : Type 0 where
   pub arrivals : (sent_at arrival : ℕ) (marked : Bool) (past : Past) (lost stay acked sent : ℕ)
       → since_start mss 0 acked sent (arrival_ack_of mss sent_at arrival marked past lost stay acked sent)
@@ -68,7 +68,7 @@ pub record IsSampled (delay : ℕ) (past : Past) (ack : Ack) : Type 0 where
   pub packet : ack.was_timeout ≡ false → delay ≤ ack.rtt_sample_us
   pub timeout : ack.was_timeout ≡ true → ack.rtt_sample_us ≡ past.rtt_sample_us
 
--- each acknowledgement is so
+-- acknowledgements, the latest first, have such samples
 abbrev pub AreSampled : ℕ → List GivenAck → Type 0
 AreSampled delay [] = Unit {0}
 AreSampled delay (given ∷ earlier) = IsSampled delay (past_of earlier) given.ack × AreSampled delay earlier

@@ -28,8 +28,8 @@ impl SharedCase {
 
     /// What a flow's start changes. After every list of rounds, whatever the flows ask for, no flow sends a packet in
     /// one more round if the round's time is before the flow's start. So each packet was sent at its flow's start or
-    /// later. A flow that starts at time 0 may have as many packets in flight as if there were no starts, and its
-    /// acknowledgements have the rates of a link with one flow.
+    /// later. A flow that starts at time 0 may have as many packets in flight as without a start, and its
+    /// acknowledgements have the rates over the link's time.
     pub fn start_law(&self)
         ensures waits { (rounds : List (List Ask)) (asks : List Ask) (flow : ℕ)
             → WaitsForStart self.now asks (shared_run_of self.now rounds) flow }

@@ -10,7 +10,7 @@ use ccp_base::{Ack, Sequence};
 use link_model::{Arrival, Past, arrival_ack, timeout_ack};
 use std::marker::Model;
 
-/// An acknowledgement in 64 bytes, by what the link knows of it. The whole acknowledgement, with its rates, is computed
+/// An acknowledgement in 48 bytes, by what the link knows of it. The whole acknowledgement, with its rates, is computed
 /// by the thread that gives it to its flow, and not by the one that runs the link for all flows. Contracts see the
 /// whole one.
 #[derive(Drop)]
@@ -18,17 +18,17 @@ pub struct PackedAck {
     /// When it arrives, in microseconds.
     now: u64,
     rtt_sample_us: u64,
-    /// How many packets leave the flight as lost.
-    lost: u64,
-    /// How many packets stay in flight.
-    stay: u64,
-    /// How many packets of the flow were acknowledged so far.
-    acked: u64,
-    /// How many were sent so far.
-    sent: u64,
     /// When the flow starts, in microseconds.
     start_us: u64,
     mss: u32,
+    /// How many packets leave the flight as lost.
+    lost: u32,
+    /// How many packets stay in flight.
+    stay: u32,
+    /// How many packets of the flow were acknowledged so far.
+    acked: u32,
+    /// How many were sent so far.
+    sent: u32,
     /// Whether the queue marked its packet.
     marked: bool,
     was_timeout: bool,
@@ -61,6 +61,7 @@ impl PackedAck {
     ) -> Self
         requires mss { link.now.mss ≤ most_segment_bytes }
         requires order { arrival.sent_at ≤ arrival.at }
+        requires lost { arrival.lost ≤ most_flight }
         requires stay { stay ≤ most_flight }
         requires acked { acked ≤ most_packets }
         requires sent { sent ≤ most_packets }
@@ -71,12 +72,12 @@ impl PackedAck {
         PackedAck {
             now: arrival.at,
             rtt_sample_us: arrival.at - arrival.sent_at,
-            lost: arrival.lost,
-            stay,
-            acked,
-            sent,
             start_us: link.start_us,
             mss: link.mss,
+            lost: arrival.lost as u32,
+            stay: stay as u32,
+            acked: acked as u32,
+            sent: sent as u32,
             marked: arrival.marked,
             was_timeout: false,
         }
@@ -93,6 +94,7 @@ impl PackedAck {
         sent: u64,
     ) -> Self
         requires mss { link.now.mss ≤ most_segment_bytes }
+        requires lost { lost ≤ most_flight }
         requires acked { acked ≤ most_packets }
         requires sent { sent ≤ most_packets }
         ensures { result ≡ since_start link.now.mss link.now.start_us acked sent
@@ -101,12 +103,12 @@ impl PackedAck {
         PackedAck {
             now,
             rtt_sample_us: past.rtt_sample_us,
-            lost,
-            stay: 0,
-            acked,
-            sent,
             start_us: link.start_us,
             mss: link.mss,
+            lost: lost as u32,
+            stay: 0,
+            acked: acked as u32,
+            sent: sent as u32,
             marked: false,
             was_timeout: true,
         }
@@ -119,18 +121,21 @@ impl PackedAck {
     {
         // its rates are those of an acknowledgement at this time of a flow that starts at time 0
         let since = self.now.saturating_sub(self.start_us);
+        let lost = u64::from(self.lost);
+        let acked = u64::from(self.acked);
+        let sent = u64::from(self.sent);
         if self.was_timeout {
             let past = Past {
                 rtt_sample_us: self.rtt_sample_us,
             };
-            let ack = timeout_ack(self.mss, since, past, self.lost, self.acked, self.sent);
+            let ack = timeout_ack(self.mss, since, past, lost, acked, sent);
             return Ack {
                 now: self.now,
                 ..ack
             };
         }
         let arrival = Arrival {
-            lost: self.lost,
+            lost,
             sent_at: since,
             at: since,
             marked: self.marked,
@@ -139,9 +144,9 @@ impl PackedAck {
             self.mss,
             arrival,
             Past::none(),
-            self.stay,
-            self.acked,
-            self.sent,
+            u64::from(self.stay),
+            acked,
+            sent,
         );
         Ack {
             now: self.now,
