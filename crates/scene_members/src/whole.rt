@@ -68,7 +68,8 @@ fn within_total(mode: SceneMode, plans: Plans) -> Result<Plans, MemberFault>
     ensures err { IfErr result (λ e. within_total mode plans ≡ Err e) }
 {
     match mode {
-        SceneMode::Live if acks_of(plans.as_slice()) > ACKS_IN_ALL => Err(MemberFault::Totals),
+        SceneMode::Campaign => Ok(plans),
+        _ if acks_of(plans.as_slice()) > ACKS_IN_ALL => Err(MemberFault::Totals),
         _ => Ok(plans),
     }
 }
@@ -83,7 +84,7 @@ pub fn cases_in(
 ) -> Result<Plans, MemberFault>
     requires { length names.now ≤ most_named_programs }
     ensures ok { IfOk result (λ ps. cases_in mode names.now (table_of traces.now.entries) (view whole.now) ≡ Ok ps) }
-    ensures within { IfOk result (λ ps. All (IsPlan (length names.now + built_in_count)) ps) }
+    ensures within { IfOk result (λ ps. All (IsPlan mode (length names.now + built_in_count)) ps) }
     ensures count { IfOk result (λ ps. length ps ≤ most_cases_of mode) }
     ensures err { IfErr result (λ e. e ≢ fault.NoMemory
         → cases_in mode names.now (table_of traces.now.entries) (view whole.now) ≡ Err e) }
@@ -92,6 +93,6 @@ pub fn cases_in(
     let value = needed_member(alloc, place, whole, Key::Cases)?;
     let items = list(alloc, place, value)?;
     few_items(alloc, mode, items.as_slice())?;
-    let plans = cases_from(alloc, names, traces, items.as_slice())?;
+    let plans = cases_from(alloc, mode, names, traces, items.as_slice())?;
     within_total(mode, plans)
 }

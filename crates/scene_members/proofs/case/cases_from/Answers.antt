@@ -18,9 +18,9 @@ loop-value-preserved c =
     let pushed : c.push.new.self ≡ l.plans ++ plan ∷ [] = search rules in
     let rest : l.rest.now ≡ c.in-Some.value.now ∷ c.in-Some.later.now = search rules in
     let longer : length c.push.new.self ≡ length l.plans + 1 = ap length pushed ∙ length-append l.plans (plan ∷ []) in
-    let walked : cases_from c.args.names.now table c.push.new.self (items_view c.in-Some.later.now) ≡ cases_from c.args.names.now table [] (items_view c.args.values.now) = search rules in
+    let walked : cases_from c.args.mode c.args.names.now table c.push.new.self (items_view c.in-Some.later.now) ≡ cases_from c.args.mode c.args.names.now table [] (items_view c.args.values.now) = search rules in
     let shorter = ap length rest in (
       walked,
-      subst (λ plans. All (IsPlan count) plans) (sym pushed) (all_pushed (IsPlan count) l.plans plan l.invariant.1 c.in_ok-case_in.ensures.within),
+      subst (λ plans. All (IsPlan c.args.mode count) plans) (sym pushed) (all_pushed (IsPlan c.args.mode count) l.plans plan l.invariant.1 c.in_ok-case_in.ensures.within),
       omega (arith, longer, shorter, l.invariant.2),
     )

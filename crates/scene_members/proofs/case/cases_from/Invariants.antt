@@ -9,8 +9,8 @@ use Rattle.scene_members.proofs.case.cases_from.Given as goal
 
 abbrev pub invariant-loop-value : goal.invariant-loop-value
 invariant-loop-value l =
-    (cases_from l.names (table_of l.traces.entries) l.plans (items_view l.rest) ≡ cases_from l.names (table_of l.traces.entries) [] (items_view l.values))
-    × All (IsPlan (length l.names + built_in_count)) l.plans
+    (cases_from l.mode l.names (table_of l.traces.entries) l.plans (items_view l.rest) ≡ cases_from l.mode l.names (table_of l.traces.entries) [] (items_view l.values))
+    × All (IsPlan l.mode (length l.names + built_in_count)) l.plans
     × (length l.plans + length l.rest ≡ length l.values)
 
 abbrev pub decreases-loop-value : goal.decreases-loop-value
