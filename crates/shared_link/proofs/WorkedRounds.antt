@@ -6,7 +6,7 @@ use Rattle.shared_link.specs.declared.round.Ask.{Ask}
 use Rattle.shared_link.specs.SharedRounds.{counts_of}
 
 abbrev flow : FlowLink
-flow = record { mss = 1448; delay_us = 20000; timeout_us = 1000000; losses = []; mark = None }
+flow = record { mss = 1448; delay_us = 20000; timeout_us = 1000000; losses = []; mark = None; start_us = 0 }
 
 abbrev one_flow : SharedCase
 one_flow = record { trace = 10 ∷ []; queue = 10; quantum_us = 10000; flows = flow ∷ [] }

@@ -23,7 +23,7 @@ pub record SharedLinkRun : Type 0 where
   pub rounds : ℕ
 
 abbrev pub no_flow : FlowLink
-no_flow = record { mss = 1; delay_us = 0; timeout_us = 1; losses = []; mark = None }
+no_flow = record { mss = 1; delay_us = 0; timeout_us = 1; losses = []; mark = None; start_us = 0 }
 
 abbrev pub flow_link_at : SharedCase → ℕ → FlowLink
 flow_link_at case flow = unwrap_or (slice_get case.flows flow) no_flow
