@@ -13,7 +13,8 @@ use Rattle.scene_members.specs.Rollout.{OpenPlan, open_cases_from}
 use Rattle.scene_members.specs.Traces.{table_of}
 
 -- what values say as cases, if programs have these names, and these are the traces
-abbrev pub plans_in : SceneMode → List (List ℕ) → List (String Global × List ℕ) → List Value → Result (List Plan) MemberFault
+abbrev pub plans_in : SceneMode → List (List ℕ) → List (String Global × List ℕ) → List Value
+    → Result (List Plan) MemberFault
 plans_in mode names traces values = cases_from mode names (table_of traces) [] (items_view values)
 
 -- what values say as cases of a rollout, if these are the programs' texts

@@ -36,17 +36,16 @@ pub record AreAgentNumbers (w : AgentNumbers) : Type 0 where
   pub slots_most : w.slots ≤ most_slots
   pub lag_most : w.lag ≤ most_lag
 
--- flows that share a link may start later; all others start at once
+-- when a case's flow starts: flows that share a link may start later, all others start at once
 abbrev pub IsStart : SceneMode → ℕ → Type 0
 IsStart Shared start_us = start_us ≤ most_start_us
 IsStart mode start_us = start_us ≡ 0
 
--- the ranges of a case if the scenario is read for this and has this number of programs
-pub record IsPlan (mode : SceneMode) (count : ℕ) (p : Plan) : Type 0 where
+-- the ranges of a case if the scenario has this number of programs
+pub record IsPlan (count : ℕ) (p : Plan) : Type 0 where
   pub link_numbers : AreLinkNumbers p.link_numbers
   pub agent_numbers : AreAgentNumbers p.agent_numbers
   pub rise : IsStrictlyIncreasing p.loss_plan.losses
   pub mark : ForSome p.loss_plan.mark (λ m. (1 ≤ m) × (m ≤ most_mark))
-  pub start : IsStart mode p.start_us
   pub ss : p.programs.ss < count
   pub ca : p.programs.ca < count

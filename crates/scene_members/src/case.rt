@@ -8,7 +8,7 @@ ghost use Rattle.scene_members.specs.CaseWalk.{case_name, case_kind, trace_in, c
 ghost use Rattle.scene_members.specs.CaseWalk.{plan_in};
 ghost use Rattle.scene_members.specs.CaseLists.{plans_in};
 ghost use Rattle.scene_members.specs.Traces.{table_of};
-ghost use Rattle.scene_members.specs.Plans.{IsPlan};
+ghost use Rattle.scene_members.specs.Plans.{IsPlan, IsStart};
 ghost use Rattle.scene_members.specs.declared.fault.MemberFault.TheVariants as fault;
 
 use crate::case_losses::loss_plan;
@@ -93,8 +93,10 @@ fn members(
     whole: &Value,
 ) -> Result<Plan, MemberFault>
     requires { length names.now ≤ most_named_programs }
-    ensures ok { IfOk result (λ p. case_members mode names.now (table_of traces.now.entries) i (view whole.now) ≡ Ok p) }
-    ensures within { IfOk result (λ p. IsPlan mode (length names.now + built_in_count) p) }
+    ensures ok { IfOk result (λ p.
+        case_members mode names.now (table_of traces.now.entries) i (view whole.now) ≡ Ok p) }
+    ensures within { IfOk result (λ p. IsPlan (length names.now + built_in_count) p) }
+    ensures start { IfOk result (λ p. IsStart mode p.start_us) }
     ensures err { IfErr result (λ e. e ≢ fault.NoMemory
         → case_members mode names.now (table_of traces.now.entries) i (view whole.now) ≡ Err e) }
 {
@@ -128,7 +130,8 @@ fn case_in(
 ) -> Result<Plan, MemberFault>
     requires { length names.now ≤ most_named_programs }
     ensures ok { IfOk result (λ p. plan_in mode names.now (table_of traces.now.entries) i (view whole.now) ≡ Ok p) }
-    ensures within { IfOk result (λ p. IsPlan mode (length names.now + built_in_count) p) }
+    ensures within { IfOk result (λ p. IsPlan (length names.now + built_in_count) p) }
+    ensures start { IfOk result (λ p. IsStart mode p.start_us) }
     ensures err { IfErr result (λ e. e ≢ fault.NoMemory
         → plan_in mode names.now (table_of traces.now.entries) i (view whole.now) ≡ Err e) }
 {
@@ -147,9 +150,11 @@ pub(crate) fn cases_from(
 ) -> Result<Plans, MemberFault>
     requires { length names.now ≤ most_named_programs }
     ensures ok { IfOk result (λ ps. plans_in mode names.now traces.now.entries values.now ≡ Ok ps) }
-    ensures within { IfOk result (λ ps. All (IsPlan mode (length names.now + built_in_count)) ps) }
+    ensures within { IfOk result (λ ps. All (IsPlan (length names.now + built_in_count)) ps) }
+    ensures starts { IfOk result (λ ps. All (λ p. IsStart mode p.start_us) ps) }
     ensures count { IfOk result (λ ps. length ps ≡ length values.now) }
-    ensures err { IfErr result (λ e. e ≢ fault.NoMemory → plans_in mode names.now traces.now.entries values.now ≡ Err e) }
+    ensures err { IfErr result (λ e. e ≢ fault.NoMemory
+        → plans_in mode names.now traces.now.entries values.now ≡ Err e) }
 {
     let mut plans = Sequence::new(alloc);
     let mut rest = values;

@@ -89,7 +89,7 @@ pub(crate) fn case_start(
     whole: &Value,
 ) -> Result<u64, MemberFault>
     ensures ok { IfOk result (λ n. case_start mode i (view whole.now) ≡ Ok n) }
-    ensures within { IfOk result (λ n. IsStart mode n) }
+    ensures within { IfOk result (IsStart mode) }
     ensures err { IfErr result (λ e. e ≢ fault.NoMemory → case_start mode i (view whole.now) ≡ Err e) }
 {
     match mode {

@@ -4,7 +4,7 @@ ghost use Rattle.std.specs.List.{All};
 ghost use Rattle.serde_json.specs.View.{view, items_view};
 ghost use Rattle.ccp_base.specs.Limits.{most_cases, most_named_programs};
 ghost use Rattle.agent_core.specs.Kinds.{built_in_count};
-ghost use Rattle.scene_members.specs.Plans.{IsPlan};
+ghost use Rattle.scene_members.specs.Plans.{IsPlan, IsStart};
 ghost use Rattle.scene_members.specs.Traces.{table_of};
 ghost use Rattle.scene_members.specs.Whole.{most_cases_of, few_items, cases_in, total_acks, within_total, opening_in};
 ghost use Rattle.scene_members.specs.declared.fault.MemberFault.TheVariants as fault;
@@ -84,7 +84,8 @@ pub fn cases_in(
 ) -> Result<Plans, MemberFault>
     requires { length names.now ≤ most_named_programs }
     ensures ok { IfOk result (λ ps. cases_in mode names.now (table_of traces.now.entries) (view whole.now) ≡ Ok ps) }
-    ensures within { IfOk result (λ ps. All (IsPlan mode (length names.now + built_in_count)) ps) }
+    ensures within { IfOk result (λ ps. All (IsPlan (length names.now + built_in_count)) ps) }
+    ensures starts { IfOk result (λ ps. All (λ p. IsStart mode p.start_us) ps) }
     ensures count { IfOk result (λ ps. length ps ≤ most_cases_of mode) }
     ensures err { IfErr result (λ e. e ≢ fault.NoMemory
         → cases_in mode names.now (table_of traces.now.entries) (view whole.now) ≡ Err e) }
