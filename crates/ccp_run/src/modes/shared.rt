@@ -3,7 +3,7 @@ ghost use Rattle.std.specs.Prelude.{◌≡◌, ◌≤◌, ◌++◌, [], OnOk, If
 ghost use Rattle.std.specs.List.{All};
 ghost use Rattle.ccp_base.specs.Limits.{most_cases, most_flows, most_rounds};
 ghost use Rattle.campaign_report.specs.TableText.{table_text};
-ghost use Rattle.scene_core.specs.CasePlans.{plan_of, AreFlowsFrom, flow_link_of};
+ghost use Rattle.scene_core.specs.CasePlans.{plan_of, AreFlowsFrom, flow_link_of, link_at_once};
 ghost use Rattle.scenario_json.specs.Cases.{case_names, IsCoded, AreNumberedFrom};
 ghost use Rattle.shared_link.specs.SharedLimits.{IsWithin};
 ghost use Rattle.ccp_run.specs.Attempts.{IsOutputOrRefusal, IsAttempt};
@@ -64,7 +64,7 @@ fn read_shared_scene(alloc: Global, bytes: &[u8]) -> Result<SharedScene, Stop>
     ensures names { IfOk result (λ s. s.scene.names ≡ case_names s.scene.cases) }
     ensures few { IfOk result (λ s. length s.scene.cases ≤ most_flows) }
     ensures link { IfOk result (λ s. IsWithin s.link) }
-    ensures links { IfOk result (λ s. s.link.flows ≡ map flow_link_of (map plan_of s.scene.cases)) }
+    ensures links { IfOk result (λ s. map link_at_once s.link.flows ≡ map flow_link_of (map plan_of s.scene.cases)) }
     ensures rounds { IfOk result (λ s. s.rounds ≤ most_rounds) }
     ensures err { IfErr result (StopsShared bytes.now) }
 {
@@ -85,7 +85,7 @@ fn run_together<R: Threads + Wait + Sync, G: Gate + Sync>(
     requires coded { All (IsCoded scene.scene.programs) scene.scene.cases }
     requires flows { AreFlowsFrom 0 scene.scene.cases }
     requires link { IsWithin scene.link }
-    requires links { scene.link.flows ≡ map flow_link_of (map plan_of scene.scene.cases) }
+    requires links { map link_at_once scene.link.flows ≡ map flow_link_of (map plan_of scene.scene.cases) }
     requires rounds { scene.rounds ≤ most_rounds }
     ensures text { IfOk result (λ output. output.text ≡ text_of_scene scene) }
     ensures books { IfOk result (λ output. output.books ≡ []) }
