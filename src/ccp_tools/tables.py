@@ -125,6 +125,28 @@ MODES: Dict[str, Mode] = {
         page="docs/shared.md",
         example="./ccp shared examples/shared.json",
     ),
+    "shared-timeline": Mode(
+        name="shared-timeline",
+        kind="shared",
+        reads="a scenario with a bottleneck",
+        does="runs all flows over one bottleneck and prints every report of each",
+        cases=64,
+        options=("workers", "wire"),
+        files=("FILE",),
+        page="docs/shared.md",
+        example="./ccp shared-timeline examples/shared.json",
+    ),
+    "shared-acks": Mode(
+        name="shared-acks",
+        kind="shared",
+        reads="a scenario with a bottleneck",
+        does="runs all flows over one bottleneck and prints every acknowledgement, as lines for fold",
+        cases=64,
+        options=("workers",),
+        files=("FILE",),
+        page="docs/shared.md",
+        example="./ccp shared-acks examples/shared.json",
+    ),
     "rollout": Mode(
         name="rollout",
         kind="rollout",
@@ -191,7 +213,7 @@ OPTIONS: Dict[str, Option] = {
         least=1,
         most=32,
         does="threads that share the cases or flows",
-        modes=("campaign", "soak", "shared", "timeline", "acks"),
+        modes=("campaign", "soak", "shared", "shared-timeline", "shared-acks", "timeline", "acks"),
     ),
     "number": Option(
         name="number",
@@ -205,7 +227,7 @@ OPTIONS: Dict[str, Option] = {
         least=None,
         most=None,
         does="prints the Install frames of the programs first",
-        modes=("live", "campaign", "timeline"),
+        modes=("live", "campaign", "timeline", "shared-timeline"),
     ),
 }
 
