@@ -10,9 +10,10 @@ use Rattle.flow_core.specs.Cores.{CoreState}
 use Rattle.flow_core.specs.LiveText.{source_at, flow_from}
 use Rattle.flow_core.specs.Readings.{over_codes}
 use Rattle.campaign_report.specs.BookText.{program_places}
-use Rattle.scene_core.specs.CasePlans.{plan_of, flow_link_of}
+use Rattle.scene_core.specs.CasePlans.{plan_of, flow_link_of, link_at_once}
 use Rattle.scenario_json.specs.Cases.{IsCoded, AreNumberedFrom}
 use Rattle.reg_compiler.specs.Sources.{sources_of}
+use Rattle.shared_link.specs.declared.shared_case.FlowLink.{FlowLink}
 use Rattle.shared_link.specs.declared.shared_case.SharedCase.{SharedCase}
 use Rattle.shared_link.specs.SharedLimits.{IsFlowWithin, IsWithin}
 use Rattle.shared_link.specs.SharedRounds.{acks_after}
@@ -62,10 +63,26 @@ flow_within case = record {
   mark = case.link.mark_within;
 }
 
-pub flows_within : (cases : List Case) → All IsFlowWithin (map flow_link_of (map plan_of cases))
+flows_within : (cases : List Case) → All IsFlowWithin (map flow_link_of (map plan_of cases))
 flows_within [] k d less = absurd (omega (arith, less))
 flows_within (case ∷ rest) zero d less = flow_within case
 flows_within (case ∷ rest) (suc k) d less = flows_within rest k d (omega (arith, less))
+
+-- the limits of a flow say nothing of its start
+start_within : (flow : FlowLink) → IsFlowWithin (link_at_once flow) → IsFlowWithin flow
+start_within flow within = record {
+  mss = within.mss;
+  delay_us = within.delay_us;
+  timeout_us = within.timeout_us;
+  losses = within.losses;
+  mark = within.mark;
+}
+
+starts_within : (flows : List FlowLink) → All IsFlowWithin (map link_at_once flows) → All IsFlowWithin flows
+starts_within [] within k d less = absurd (omega (arith, less))
+starts_within (flow ∷ rest) within zero d less = start_within flow (within 0 (link_at_once d) (omega arith))
+starts_within (flow ∷ rest) within (suc k) d less =
+    starts_within rest (λ j e h. within (suc j) e (omega (arith, h))) k d (omega (arith, less))
 
 -- ---- the cases of a run's flows
 
@@ -116,11 +133,13 @@ rows-count link cases rounds = length-map (flows_at_end link over_codes cases ro
 
 -- ---- the link
 
-pub link_within : (link : SharedCase) (cases : List Case) → link.flows ≡ map flow_link_of (map plan_of cases) → length cases ≤ most_flows
+pub link_within : (link : SharedCase) (cases : List Case) → map link_at_once link.flows ≡ map flow_link_of (map plan_of cases) → length cases ≤ most_flows
     → (1 ≤ link.queue) × (link.queue ≤ most_queue) → (1 ≤ link.quantum_us) × (link.quantum_us ≤ most_quantum_us) → IsWithin link
 link_within link cases links few queue quantum_us = record {
-  few = subst (λ (n : ℕ). n ≤ most_flows) (sym (ap length links ∙ length-map (map plan_of cases) flow_link_of ∙ length-map cases plan_of)) few;
-  flows = subst (λ flows. All IsFlowWithin flows) (sym links) (flows_within cases);
+  few = subst (λ (n : ℕ). n ≤ most_flows)
+      (sym (sym (length-map link.flows link_at_once) ∙ ap length links ∙ length-map (map plan_of cases) flow_link_of ∙ length-map cases plan_of))
+      few;
+  flows = starts_within link.flows (subst (λ flows. All IsFlowWithin flows) (sym links) (flows_within cases));
   queue = queue;
   quantum_us = quantum_us;
 }

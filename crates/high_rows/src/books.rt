@@ -1,7 +1,7 @@
 //! Runs of flows over one bottleneck with their books, which no mode prints.
 ghost use Rattle.std.specs.Prelude.{◌≡◌, ◌≤◌, IfOk, length, map};
 ghost use Rattle.ccp_base.specs.Limits.{most_flows, most_rounds};
-ghost use Rattle.scene_core.specs.CasePlans.{plan_of, AreFlowsFrom, flow_link_of};
+ghost use Rattle.scene_core.specs.CasePlans.{plan_of, AreFlowsFrom, flow_link_of, link_at_once};
 ghost use Rattle.shared_link.specs.SharedLimits.{IsWithin};
 
 use ccp_base::{OpenGate, Workers};
@@ -23,7 +23,7 @@ fn two_flows(alloc: Global) -> Result<SharedScene, SceneFault>
     ensures few { IfOk result (λ s. length s.scene.cases ≤ most_flows) }
     ensures flows { IfOk result (λ s. AreFlowsFrom 0 s.scene.cases) }
     ensures link { IfOk result (λ s. IsWithin s.link) }
-    ensures links { IfOk result (λ s. s.link.flows ≡ map flow_link_of (map plan_of s.scene.cases)) }
+    ensures links { IfOk result (λ s. map link_at_once s.link.flows ≡ map flow_link_of (map plan_of s.scene.cases)) }
     ensures rounds { IfOk result (λ s. s.rounds ≤ most_rounds) }
 {
     shared_scene(alloc, TWO)

@@ -11,6 +11,10 @@ use std::thread::Threads;
 const TWO_FLOWS: &[u8] =
     b"{\"version\":1,\"traces\":{\"t\":\"10\\n\"},\"cases\":[{\"name\":\"a\",\"agent\":\"reno\",\"trace\":\"t\",\"mss\":1448,\"queue\":10,\"delay_us\":20000,\"timeout_us\":1000000,\"acks\":4},{\"name\":\"b\",\"agent\":\"reno\",\"trace\":\"t\",\"mss\":1448,\"queue\":10,\"delay_us\":20000,\"timeout_us\":1000000,\"acks\":4}],\"shared\":{\"trace\":\"t\",\"queue\":10,\"quantum_us\":100000,\"rounds\":100}}";
 
+/// Two flows of Reno's over one bottleneck, in whose tenth round, the last one, each has 1,536 acknowledgements.
+const LONG_ROUND: &[u8] =
+    b"{\"version\":1,\"traces\":{\"t\":\"1\\n1\\n1\\n1\\n\"},\"cases\":[{\"name\":\"a\",\"agent\":\"reno\",\"trace\":\"t\",\"mss\":1448,\"queue\":10,\"delay_us\":20000,\"timeout_us\":1000000,\"acks\":3069},{\"name\":\"b\",\"agent\":\"reno\",\"trace\":\"t\",\"mss\":1448,\"queue\":10,\"delay_us\":20000,\"timeout_us\":1000000,\"acks\":3069}],\"shared\":{\"trace\":\"t\",\"queue\":4096,\"quantum_us\":1000000,\"rounds\":100}}";
+
 /// A worker's passing of a point, the one of this count, with the number of a flow or case; None if it may be any.
 type Passing = (u32, Point, u64, Option<u32>);
 
@@ -35,10 +39,11 @@ fn hold(waiting: Waiting) -> Hold {
     }
 }
 
-/// Cases, or parts of rounds, of a mode on two workers, of whom one is held. Their output is that of one worker.
+/// Cases, or parts of rounds, of a mode on two workers that are held. Their output is that of one worker.
 struct Shared {
     shows: &'static str,
     mode: &'static str,
+    input: &'static [u8],
     one: Waiting,
     other: Waiting,
     /// How many holds end.
@@ -59,10 +64,23 @@ const SECOND_PART: Waiting = (
     (1, Point::AfterCase, 2, Some(1)),
 );
 
+/// Worker 0 is held before its part of the long round until worker 1 has done its own, and that one until worker 0 has
+/// come to its part.
+const BEFORE_A_LONG_PART: Waiting = (
+    (0, Point::InCase, 10, Some(0)),
+    (1, Point::AfterCase, 10, Some(1)),
+);
+
+const BEFORE_THE_OTHER: Waiting = (
+    (1, Point::InCase, 10, Some(1)),
+    (0, Point::InCase, 10, Some(0)),
+);
+
 const SHARED: [Shared; 5] = [
     Shared {
         shows: "two workers run cases at once",
         mode: "campaign",
+        input: TWO_FLOWS,
         one: FIRST_CASE,
         other: FIRST_CASE,
         holds: 1,
@@ -71,6 +89,7 @@ const SHARED: [Shared; 5] = [
     Shared {
         shows: "two workers make a timeline",
         mode: "timeline",
+        input: TWO_FLOWS,
         one: FIRST_CASE,
         other: FIRST_CASE,
         holds: 1,
@@ -79,26 +98,30 @@ const SHARED: [Shared; 5] = [
     Shared {
         shows: "two workers write acknowledgements",
         mode: "acks",
+        input: TWO_FLOWS,
         one: FIRST_CASE,
         other: FIRST_CASE,
         holds: 1,
         begun: 2,
     },
+    // The caller does both parts of a short round, that of flow 1 first.
     Shared {
-        shows: "two workers do parts at once",
+        shows: "a short round ends",
         mode: "shared",
-        one: FIRST_CASE,
-        other: FIRST_CASE,
-        holds: 1,
-        begun: 4,
-    },
-    Shared {
-        shows: "two workers do parts at once in two rounds",
-        mode: "shared",
+        input: TWO_FLOWS,
         one: FIRST_CASE,
         other: SECOND_PART,
         holds: 2,
         begun: 4,
+    },
+    Shared {
+        shows: "two workers do parts of a long round at once",
+        mode: "shared",
+        input: LONG_ROUND,
+        one: BEFORE_A_LONG_PART,
+        other: BEFORE_THE_OTHER,
+        holds: 2,
+        begun: 20,
     },
 ];
 
@@ -106,12 +129,12 @@ const SHARED: [Shared; 5] = [
 fn ends_like<R: Threads + Wait + Sync>(
     rt: &R,
     alloc: Global,
-    mode: &str,
+    row: &Shared,
     gate: &HoldGate,
     one: &RunResult,
 ) -> Result<bool, Fail> {
-    let words = ["ccp", mode, "--workers", "2"];
-    let two = run_under_gate(rt, alloc, &words, TWO_FLOWS, NONE_FAILS, gate)?;
+    let words = ["ccp", row.mode, "--workers", "2"];
+    let two = run_under_gate(rt, alloc, &words, row.input, NONE_FAILS, gate)?;
     Ok(one.status == 0 && two.is(0, one.output.as_slice(), b""))
 }
 
@@ -119,17 +142,17 @@ fn ends_like<R: Threads + Wait + Sync>(
 fn ends_like_one_worker<R: Threads + Wait + Sync>(
     rt: &R,
     alloc: Global,
-    mode: &str,
+    row: &Shared,
     gate: &HoldGate,
 ) -> Result<bool, Fail> {
-    let one = run_on_words(rt, alloc, &["ccp", mode], TWO_FLOWS, NONE_FAILS)?;
-    ends_like(rt, alloc, mode, gate, &one)
+    let one = run_on_words(rt, alloc, &["ccp", row.mode], row.input, NONE_FAILS)?;
+    ends_like(rt, alloc, row, gate, &one)
 }
 
 /// Whether two workers, of whom one is held, do what the row says.
 fn is_shared<R: Threads + Wait + Sync>(rt: &R, alloc: Global, row: &Shared) -> Result<bool, Fail> {
     let gate = HoldGate::new(hold(row.one), hold(row.other));
-    let ended = ends_like_one_worker(rt, alloc, row.mode, &gate);
+    let ended = ends_like_one_worker(rt, alloc, row, &gate);
     let came = gate.hold_count() == Some(row.holds) && gate.pass_count(Point::InCase) == row.begun;
     drop(gate);
     Ok(ended? && came)

@@ -1,13 +1,17 @@
--- What the generator draws: its traces say their times, its names are names, and one plan more is drawn.
-use Rattle.std.proofs.Common.{◌≡◌, ℕ, zero, suc, ◌-◌, ◌<◌, ◌≤◌, ◌^◌, List, [], ◌∷◌, ◌++◌, Ok, Some, length, codes, refl, arith}
+-- What the generator draws: its traces say their times, its names are names, one plan more is drawn, and all flows
+-- start at once.
+use Rattle.std.proofs.Common.{◌≡◌, ℕ, zero, suc, ◌-◌, ◌<◌, ◌≤◌, ◌^◌, List, [], ◌∷◌, ◌++◌, Ok, Some, length, map, codes, refl, ap, ◌∙◌, arith}
 use Rattle.std.proofs.lemmas.Bool.{le-leb}
 use Rattle.std.proofs.lemmas.Fmt.{length-decimal-le}
+use Rattle.std.proofs.lemmas.List.{map_push}
 use Rattle.std.specs.Fmt.{decimal}
+use Rattle.ccp_base.specs.Limits.{most_flows}
 use Rattle.ccp_base.specs.Named.{as_name}
 use Rattle.ccp_base.specs.Text.{◌⧺◌}
 use Rattle.link_model.specs.TraceText.{trace_of}
 use Rattle.scenario_json.specs.Soak.{text_at, times_at, drawn_plan, drawn_plans}
 use Rattle.scene_members.specs.declared.plan.Plan.{Plan}
+use Rattle.scene_core.specs.CasePlans.{at_once}
 
 -- the texts of the generated traces say their times
 pub text_read : (choice : ℕ) → trace_of (text_at choice) ≡ Ok (times_at choice)
@@ -35,3 +39,14 @@ unfolding drawn_plans
 plans_more zero done x some = absurd (omega arith)
 plans_more (suc left) done x some =
     let same : suc left - 1 ≡ left = omega arith in rw same refl
+
+plans_at_once : (left : ℕ) (done : List Plan) (x : ℕ) → map at_once done ≡ done → map at_once (drawn_plans left done x) ≡ drawn_plans left done x
+unfolding drawn_plans
+plans_at_once zero done x is = is
+plans_at_once (suc left) done x is =
+    let next = drawn_plan (length done) x in
+    plans_at_once left (done ++ next.0 ∷ []) next.1 (map_push at_once done next.0 ∙ ap (λ plans. plans ++ next.0 ∷ []) is)
+
+-- the flows of the generated scenario start at once
+pub all_at_once : (number : ℕ) → map at_once (drawn_plans most_flows [] number) ≡ drawn_plans most_flows [] number
+all_at_once number = plans_at_once most_flows [] number refl

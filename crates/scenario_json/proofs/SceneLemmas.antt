@@ -1,17 +1,17 @@
--- The cases that are put together of plans, one more at a time.
-use Rattle.std.proofs.Common.{◌≡◌, ℕ, ◌+◌, List, [], ◌∷◌, ◌++◌, length, map, sym, ap, ◌∙◌, arith, append_assoc}
+-- The cases that are put together of plans, one more at a time, and the links of plans whose flows start at once.
+use Rattle.std.proofs.Common.{◌≡◌, ℕ, ◌+◌, List, [], ◌∷◌, ◌++◌, length, map, refl, sym, ap, ◌∙◌, arith, append_assoc}
 use Rattle.std.proofs.lemmas.List.{map_push}
 use Rattle.std.specs.List.{All}
 use Rattle.reg_compiler.specs.declared.built.Built.{Built}
 use Rattle.flow_core.specs.declared.case.Case.{Case}
 use Rattle.scene_members.specs.declared.plan.Plan.{Plan}
-use Rattle.scene_core.specs.CasePlans.{plan_of, AreFlowsFrom}
+use Rattle.scene_core.specs.CasePlans.{plan_of, flow_link_of, at_once, link_at_once, AreFlowsFrom}
 use Rattle.scenario_json.specs.Cases.{case_names, IsCoded}
 use Rattle.scene_members.proofs.ListLemmas.{all_pushed}
 
 -- these cases are put together of the plans but for those that are left
 pub record ArePut (programs : List (ℕ × Built)) (plans : List Plan) (cases : List Case) (left : List Plan) (names : List (List ℕ)) : Type 0 where
-  pub said : map plan_of cases ++ left ≡ plans
+  pub said : map plan_of cases ++ map at_once left ≡ map at_once plans
   pub coded : All (IsCoded programs) cases
   pub flows : AreFlowsFrom 0 cases
   pub named : names ≡ case_names cases
@@ -22,15 +22,20 @@ flows_pushed flow (case ∷ rest) one h is = (h.0, flows_pushed (flow + 1) rest 
 
 -- one more case is put together
 pub put_step : (programs : List (ℕ × Built)) (plans : List Plan) (cases : List Case) (left rest : List Plan) (plan : Plan) (one : Case) (names : List (List ℕ))
-    → left ≡ plan ∷ rest → ArePut programs plans cases left names → one.flow ≡ length cases → plan_of one ≡ plan → IsCoded programs one
+    → left ≡ plan ∷ rest → ArePut programs plans cases left names → one.flow ≡ length cases → plan_of one ≡ at_once plan → IsCoded programs one
     → ArePut programs plans (cases ++ one ∷ []) rest (names ++ plan.name ∷ [])
 put_step programs plans cases left rest plan one names is h flow said coded = record {
   said =
-      ap (λ done. done ++ rest) (map_push plan_of cases one) ∙ append_assoc (map plan_of cases) (plan_of one ∷ []) rest
-      ∙ ap (λ p. map plan_of cases ++ p ∷ rest) said ∙ sym (ap (λ ps. map plan_of cases ++ ps) is) ∙ h.said;
+      ap (λ done. done ++ map at_once rest) (map_push plan_of cases one) ∙ append_assoc (map plan_of cases) (plan_of one ∷ []) (map at_once rest)
+      ∙ ap (λ p. map plan_of cases ++ p ∷ map at_once rest) said ∙ sym (ap (λ ps. map plan_of cases ++ map at_once ps) is) ∙ h.said;
   coded = all_pushed (IsCoded programs) cases one h.coded coded;
   flows = flows_pushed 0 cases one h.flows (omega (arith, flow));
   named =
       ap (λ ns. ns ++ plan.name ∷ []) h.named ∙ ap (λ n. case_names cases ++ n ∷ []) (sym (ap (λ p. p.name) said))
       ∙ sym (map_push (λ case. case.name) cases one);
 }
+
+-- but for their starts, flows have on a link what plans say whose flows start at once
+pub links_at_once : (plans : List Plan) → map link_at_once (map flow_link_of plans) ≡ map flow_link_of (map at_once plans)
+links_at_once [] = refl
+links_at_once (plan ∷ rest) = ap (λ links. flow_link_of (at_once plan) ∷ links) (links_at_once rest)

@@ -1,5 +1,5 @@
 -- A scenario: its programs, its traces and its cases, or the first refusal in the order of the text's parts.
-use Rattle.std.specs.Prelude.{ℕ, Result, Ok, List}
+use Rattle.std.specs.Prelude.{ℕ, Result, Ok, List, map}
 use Rattle.serde_json.specs.Data.{Data}
 use Rattle.ccp_base.specs.Chaining.{then_do}
 use Rattle.scene_members.specs.declared.key.Key.TheVariants as key
@@ -9,6 +9,7 @@ use Rattle.scene_members.specs.CaseWalk.{Table}
 use Rattle.scene_members.specs.Traces.{traces_in}
 use Rattle.scene_members.specs.Values.{member_of}
 use Rattle.scene_members.specs.Whole.{value_of_bytes, opening_in, cases_in}
+use Rattle.scene_core.specs.CasePlans.{at_once}
 use Rattle.scenario_json.specs.declared.fault.SceneFault.{SceneFault}
 use Rattle.scenario_json.specs.MemberFaults.{in_scene}
 use Rattle.reg_compiler.specs.Sources.{Sources}
@@ -31,6 +32,10 @@ pub record Scene : Type 0 where
 abbrev pub scene_with : Sources → List Plan → Scene
 scene_with programs cases = record { programs = programs; cases = cases }
 
+-- the scene of what is said: when a flow starts is no part of it, since the flow's link has that
+abbrev pub scene_of_parts : SceneParts → Scene
+scene_of_parts parts = scene_with parts.programs (map at_once parts.cases)
+
 -- what a value says
 abbrev pub parts_in : SceneMode → Data → Result SceneParts SceneFault
 parts_in mode whole =
@@ -43,4 +48,4 @@ parts_in mode whole =
 abbrev pub scene_of : SceneMode → List ℕ → Result Scene SceneFault
 scene_of mode text =
     then_do (in_scene (value_of_bytes text)) (λ whole.
-    then_do (parts_in mode whole) (λ parts. Ok (scene_with parts.programs parts.cases)))
+    then_do (parts_in mode whole) (λ parts. Ok (scene_of_parts parts)))

@@ -91,6 +91,7 @@ drawn_plan i x =
         link_numbers = link_numbers.0;
         agent_numbers = agent_numbers.0;
         loss_plan = record { losses = losses.0; mark = None };
+        start_us = 0;
         programs = record { ss = 0; ca = avoidance_of (kind_at kind.0) };
       },
       trace.1,

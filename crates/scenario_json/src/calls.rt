@@ -11,7 +11,7 @@ ghost use Rattle.scene_members.specs.SharedMembers.{shares_in};
 ghost use Rattle.scene_members.specs.Traces.{table_of};
 ghost use Rattle.scene_members.specs.Whole.{most_cases_of};
 ghost use Rattle.scene_members.specs.declared.mode.SceneMode.TheVariants as modes;
-ghost use Rattle.scene_core.specs.CasePlans.{plan_of, AreFlowsFrom, flow_link_of};
+ghost use Rattle.scene_core.specs.CasePlans.{plan_of, AreFlowsFrom, flow_link_of, link_at_once};
 ghost use Rattle.scenario_json.specs.Cases.{case_names, IsCoded, AreNumberedFrom};
 ghost use Rattle.scenario_json.specs.MemberFaults.{in_scene};
 ghost use Rattle.scenario_json.specs.ParsedScenes.{parts_said};
@@ -35,8 +35,8 @@ use serde_json::Value;
 use shared_link::SharedCase;
 use std::alloc::Global;
 
-/// Reads a scenario: a JSON object with its programs, traces and cases. The refusals are those of `SceneFault`, the
-/// first one in the order of the scenario's parts.
+/// Reads a scenario: a JSON object with its programs, traces and cases. When a flow starts is no part of the answer. The
+/// refusals are those of `SceneFault`, the first one in the order of the scenario's parts.
 #[tactic(auto, using(portus_build::proofs::WalkLemmas::walks_exact))]
 pub fn scenario(alloc: Global, text: &[u8], mode: SceneMode) -> Result<Scenario, SceneFault>
     // The result of each program's text, a program or its first refusal, is what the walks over it find.
@@ -69,6 +69,7 @@ pub fn scenario(alloc: Global, text: &[u8], mode: SceneMode) -> Result<Scenario,
 }
 
 /// Generates the scenario of a number: 64 cases of the built-in programs, by draws from the number.
+#[tactic(auto, using(crate::proofs::DrawLemmas::all_at_once))]
 pub fn soak(alloc: Global, number: u32) -> Result<Scenario, NoMemory>
     ensures found { IfOk result (λ s.
         scene_with (sources_of s.programs) (map plan_of s.cases) ≡ gen number) }
@@ -100,7 +101,7 @@ pub fn rollout_scene(alloc: Global, text: &[u8]) -> Result<OpenCases, SceneFault
 
 /// What a value says of flows that share one link.
 fn shared_parts(alloc: Global, whole: &Value) -> Result<(ParsedScene, Shares), SceneFault>
-    ensures parsed { IfOk result (λ both. parts_in modes.Live (view whole.now) ≡ Ok (parts_said both.0)) }
+    ensures parsed { IfOk result (λ both. parts_in modes.Shared (view whole.now) ≡ Ok (parts_said both.0)) }
     ensures shares { IfOk result (λ both. shares_in (table_of both.0.traces.entries) (view whole.now) ≡ Ok both.1) }
     ensures numbered { IfOk result (λ both. AreNumberedFrom 0 both.0.programs.builts) }
     ensures within { IfOk result (λ both. All (IsPlan (length both.0.programs.builts)) both.0.plans) }
@@ -109,16 +110,18 @@ fn shared_parts(alloc: Global, whole: &Value) -> Result<(ParsedScene, Shares), S
     ensures quantum_us { IfOk result (λ both. (1 ≤ both.1.quantum_us) × (both.1.quantum_us ≤ most_quantum_us)) }
     ensures rounds { IfOk result (λ both. (1 ≤ both.1.rounds) × (both.1.rounds ≤ most_rounds)) }
     ensures err { IfErr result (λ e. e ≢ fault.NoMemory
-        → then_do (parts_in modes.Live (view whole.now)) (λ parts.
+        → then_do (parts_in modes.Shared (view whole.now)) (λ parts.
         then_do (in_scene (shares_in parts.traces (view whole.now))) (λ shares. Ok (shared_of parts shares))) ≡ Err e) }
 {
-    let parsed = parsed_scene(alloc, SceneMode::Live, whole)?;
+    let parsed = parsed_scene(alloc, SceneMode::Shared, whole)?;
     let shares = shares_in(alloc, &parsed.traces, whole)?;
     Ok((parsed, shares))
 }
 
-/// Reads the scenario of flows that share one link: that of a live run with the member `shared`. The link has one flow
-/// for each case, in order. The refusals of a live run come first, then those of `shared`.
+/// Reads the scenario of flows that share one link: that of a live run with the member `shared`, in which each case may
+/// say when its flow starts. The link has one flow for each case, in order. The refusals of a live run come first, then
+/// those of `shared`.
+#[tactic(auto, using(crate::proofs::SceneLemmas::links_at_once))]
 pub fn shared_scene(alloc: Global, text: &[u8]) -> Result<SharedScene, SceneFault>
     // The answer is the scene of the text with its link, and each refusal the text's first one.
     ensures found { IfOk result (λ s. shared_scene_of text.now
@@ -134,8 +137,9 @@ pub fn shared_scene(alloc: Global, text: &[u8]) -> Result<SharedScene, SceneFaul
     ensures names { IfOk result (λ s. s.scene.names ≡ case_names s.scene.cases) }
     ensures few { IfOk result (λ s. length s.scene.cases ≤ most_flows) }
 
-    // The link has what each case has of its own, in order, and is within its limits.
-    ensures links { IfOk result (λ s. s.link.flows ≡ map flow_link_of (map plan_of s.scene.cases)) }
+    // The link has what each case has of its own, in order, with the start of its flow, and is within its limits.
+    ensures links { IfOk result (λ s.
+        map link_at_once s.link.flows ≡ map flow_link_of (map plan_of s.scene.cases)) }
     ensures queue { IfOk result (λ s. (1 ≤ s.link.queue) × (s.link.queue ≤ most_queue)) }
     ensures quantum_us { IfOk result (λ s. (1 ≤ s.link.quantum_us) × (s.link.quantum_us ≤ most_quantum_us)) }
     ensures rounds { IfOk result (λ s. (1 ≤ s.rounds) × (s.rounds ≤ most_rounds)) }
@@ -150,8 +154,8 @@ pub fn shared_scene(alloc: Global, text: &[u8]) -> Result<SharedScene, SceneFaul
         plans,
     } = parsed;
     let SceneProgramList { names: _, builts } = programs;
+    let flows = flow_links(alloc, plans.as_slice())?;
     let scene = put_together(alloc, builts, plans)?;
-    let flows = flow_links(alloc, scene.cases.as_slice())?;
     let link = SharedCase {
         trace: shares.trace,
         queue: shares.queue,

@@ -9,7 +9,7 @@ ghost use Rattle.reg_compiler.specs.Simulation.{Simulates};
 ghost use Rattle.agent_core.specs.Kinds.{agent_of, kind_of};
 ghost use Rattle.flow_core.specs.Cases.{KeepsWithin, AreOne};
 ghost use Rattle.scene_members.specs.Plans.{IsPlan, AreLinkNumbers, AreAgentNumbers};
-ghost use Rattle.scene_core.specs.CasePlans.{plan_of};
+ghost use Rattle.scene_core.specs.CasePlans.{plan_of, at_once};
 ghost use Rattle.scenario_json.specs.Cases.{coded_of, coded_at, IsCoded};
 
 use ccp_base::{NoMemory, Role, Sequence};
@@ -72,7 +72,7 @@ fn case_of(flow: u32, plan: Plan, ss: Coded, ca: Coded) -> Case
     requires ca_within { KeepsWithin ca.role.look ca.code.code }
     requires one { AreOne ss ca }
     ensures flow { result.flow ≡ flow }
-    ensures plan { plan_of result ≡ plan }
+    ensures plan { plan_of result ≡ at_once plan }
     ensures ss { result.ss ≡ ss }
     ensures ca { result.ca ≡ ca }
     ensures opening { result.agent ≡ agent_of (kind_of result.agent) result.link.mss ss.role ca.role }
@@ -101,7 +101,7 @@ fn case_of(flow: u32, plan: Plan, ss: Coded, ca: Coded) -> Case
     }
 }
 
-/// The case of a flow, with the codes of its programs.
+/// The case of a flow, with the codes of its programs. It has all that its plan says but the start, which a link has.
 pub(crate) fn case(
     alloc: Global,
     programs: &[(u32, Built)],
@@ -110,7 +110,7 @@ pub(crate) fn case(
 ) -> Result<Case, NoMemory>
     requires { IsPlan (length programs.now) plan }
     ensures flow { IfOk result (λ c. c.flow ≡ flow) }
-    ensures plan { IfOk result (λ c. plan_of c ≡ plan) }
+    ensures plan { IfOk result (λ c. plan_of c ≡ at_once plan) }
     ensures coded { IfOk result (λ c. IsCoded programs.now c) }
 {
     let (ss, ca) = coded_programs(alloc, programs, plan.programs)?;

@@ -165,6 +165,7 @@ fn plan(alloc: Global, draws: &mut Draws, i: usize) -> Result<Plan, NoMemory>
         link_numbers,
         agent_numbers,
         loss_plan,
+        start_us: 0,
         programs: Programs {
             ss: 0,
             ca: kind.avoidance(),

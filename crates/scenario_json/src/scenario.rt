@@ -3,7 +3,7 @@ ghost use Rattle.std.specs.Prelude.{◌≡◌, ◌≤◌, [], IfOk, OnOk, length
 ghost use Rattle.std.specs.List.{All};
 ghost use Rattle.ccp_base.specs.Limits.{most_cases};
 ghost use Rattle.scene_members.specs.Plans.{IsPlan};
-ghost use Rattle.scene_core.specs.CasePlans.{plan_of, AreFlowsFrom};
+ghost use Rattle.scene_core.specs.CasePlans.{plan_of, at_once, AreFlowsFrom};
 ghost use Rattle.scenario_json.specs.Cases.{case_names, IsCoded};
 
 use crate::cases::case;
@@ -27,7 +27,7 @@ fn put_cases(
     requires few { length plans ≤ most_cases }
     requires unnamed { names.old ≡ [] }
     requires empty { cases.old ≡ [] }
-    ensures plans { OnOk result (map plan_of cases.new ≡ plans) }
+    ensures plans { OnOk result (map plan_of cases.new ≡ map at_once plans) }
     ensures names { OnOk result (names.new ≡ case_names cases.new) }
     ensures coded { OnOk result (All (IsCoded programs.now) cases.new) }
     ensures flows { OnOk result (AreFlowsFrom 0 cases.new) }
@@ -40,7 +40,7 @@ fn put_cases(
     Ok(())
 }
 
-/// The scenario of these programs and plans.
+/// The scenario of these programs and plans. When a flow starts is no part of it.
 pub(crate) fn put_together(
     alloc: Global,
     programs: Builts,
@@ -49,7 +49,7 @@ pub(crate) fn put_together(
     requires within { All (IsPlan (length programs)) plans }
     requires few { length plans ≤ most_cases }
     ensures programs { IfOk result (λ s. s.programs ≡ programs) }
-    ensures plans { IfOk result (λ s. map plan_of s.cases ≡ plans) }
+    ensures plans { IfOk result (λ s. map plan_of s.cases ≡ map at_once plans) }
     ensures names { IfOk result (λ s. s.names ≡ case_names s.cases) }
     ensures coded { IfOk result (λ s. All (IsCoded s.programs) s.cases) }
     ensures flows { IfOk result (λ s. AreFlowsFrom 0 s.cases) }

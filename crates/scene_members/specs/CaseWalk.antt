@@ -10,6 +10,8 @@ use Rattle.scene_members.specs.declared.key.Key.{Key}
 use Rattle.scene_members.specs.declared.key.Key.TheVariants as key
 use Rattle.scene_members.specs.declared.json_place.JsonPlace.{JsonPlace}
 use Rattle.scene_members.specs.declared.json_place.JsonPlace.TheVariants.{Case, In, Item}
+use Rattle.scene_members.specs.declared.mode.SceneMode.{SceneMode}
+use Rattle.scene_members.specs.declared.mode.SceneMode.TheVariants.{Shared}
 use Rattle.scene_members.specs.declared.plan.LinkNumbers.{LinkNumbers}
 use Rattle.scene_members.specs.declared.plan.AgentNumbers.{AgentNumbers}
 use Rattle.scene_members.specs.declared.plan.LossPlan.{LossPlan}
@@ -106,6 +108,13 @@ case_loss_plan i whole =
     then_do (mark_or (In i key.Mark) (member_of key.Mark whole)) (λ mark.
     Ok (record { losses = losses; mark = mark })))
 
+-- ---- when the flow starts
+
+-- when a flow over a shared link starts, in microseconds: at once if nothing is said. Other modes ignore the member.
+abbrev pub case_start : SceneMode → ℕ → Data → Result ℕ MemberFault
+case_start Shared i whole = number_or (In i key.StartUs) key.StartUs 0 (member_of key.StartUs whole)
+case_start mode i whole = Ok 0
+
 -- ---- programs
 
 -- the number of a program that the scenario names: those come after the ones that are built in
@@ -125,14 +134,15 @@ case_programs names kind i whole =
 
 -- ---- the case
 
-abbrev pub case_members : List (List ℕ) → Table → ℕ → Data → Result Plan MemberFault
-case_members names traces i whole =
+abbrev pub case_members : SceneMode → List (List ℕ) → Table → ℕ → Data → Result Plan MemberFault
+case_members mode names traces i whole =
     then_do (case_name i whole) (λ name.
     then_do (case_kind i whole) (λ kind.
     then_do (case_trace traces i whole) (λ trace.
     then_do (case_link_numbers i whole) (λ link_numbers.
     then_do (case_agent_numbers i whole) (λ agent_numbers.
     then_do (case_loss_plan i whole) (λ loss_plan.
+    then_do (case_start mode i whole) (λ start_us.
     then_do (case_programs names kind i whole) (λ programs.
     Ok (record {
       name = name;
@@ -141,15 +151,17 @@ case_members names traces i whole =
       link_numbers = link_numbers;
       agent_numbers = agent_numbers;
       loss_plan = loss_plan;
+      start_us = start_us;
       programs = programs;
-    }))))))))
+    })))))))))
 
-abbrev pub plan_in : List (List ℕ) → Table → ℕ → Data → Result Plan MemberFault
-plan_in names traces i whole =
-    then_do (object_in (Case i) whole) (λ members. case_members names traces i whole)
+abbrev pub plan_in : SceneMode → List (List ℕ) → Table → ℕ → Data → Result Plan MemberFault
+plan_in mode names traces i whole =
+    then_do (object_in (Case i) whole) (λ members. case_members mode names traces i whole)
 
 -- the cases, after those that are done
-abbrev pub cases_from : List (List ℕ) → Table → List Plan → Items → Result (List Plan) MemberFault
-cases_from names traces done no_items = Ok done
-cases_from names traces done (item value rest) =
-    then_do (plan_in names traces (length done) value) (λ plan. cases_from names traces (done ++ plan ∷ []) rest)
+abbrev pub cases_from : SceneMode → List (List ℕ) → Table → List Plan → Items → Result (List Plan) MemberFault
+cases_from mode names traces done no_items = Ok done
+cases_from mode names traces done (item value rest) =
+    then_do (plan_in mode names traces (length done) value) (λ plan.
+    cases_from mode names traces (done ++ plan ∷ []) rest)

@@ -2,7 +2,7 @@
 use Rattle.std.specs.Prelude.{ℕ, ◌^◌, ◌-◌, List, codes}
 use Rattle.ccp_base.specs.Limits.{most_acks, most_slots, most_lag, most_segment_bytes, most_queue, most_mark, most_delay_us, most_timeout_us, most_first_window, most_quantum_us, most_rounds}
 use Rattle.scene_members.specs.declared.key.Key.{Key}
-use Rattle.scene_members.specs.declared.key.Key.TheVariants.{Version, Programs, Traces, Cases, Shared, Name, Agent, Trace, Mss, Queue, DelayUs, TimeoutUs, Acks, Slots, Lag, Losses, Mark, Ss, Ca, Cwnd, Steps, QuantumUs, Rounds}
+use Rattle.scene_members.specs.declared.key.Key.TheVariants.{Version, Programs, Traces, Cases, Shared, Name, Agent, Trace, Mss, Queue, DelayUs, TimeoutUs, Acks, Slots, Lag, Losses, Mark, StartUs, Ss, Ca, Cwnd, Steps, QuantumUs, Rounds}
 
 abbrev pub key_word : Key → List ℕ
 key_word Version = codes "version"
@@ -22,12 +22,17 @@ key_word Slots = codes "slots"
 key_word Lag = codes "lag"
 key_word Losses = codes "losses"
 key_word Mark = codes "mark"
+key_word StartUs = codes "start_us"
 key_word Ss = codes "ss"
 key_word Ca = codes "ca"
 key_word Cwnd = codes "cwnd"
 key_word Steps = codes "steps"
 key_word QuantumUs = codes "quantum_us"
 key_word Rounds = codes "rounds"
+
+-- the latest start of a flow, in microseconds of the time of the link that it shares
+abbrev pub most_start_us : ℕ
+most_start_us = 10000000000
 
 -- the least value of a member that is a number
 abbrev pub least_of : Key → ℕ
@@ -53,6 +58,7 @@ greatest_value Slots = most_slots
 greatest_value Lag = most_lag
 greatest_value Losses = 2 ^ 32 - 1
 greatest_value Mark = most_mark
+greatest_value StartUs = most_start_us
 greatest_value Cwnd = most_first_window
 greatest_value QuantumUs = most_quantum_us
 greatest_value Rounds = most_rounds

@@ -12,7 +12,7 @@ use Rattle.scene_members.specs.declared.key.Key.TheVariants as key
 use Rattle.scene_members.specs.declared.json_place.JsonPlace.TheVariants.{Whole, Top}
 use Rattle.scene_members.specs.declared.plan.Plan.{Plan}
 use Rattle.scene_members.specs.declared.mode.SceneMode.{SceneMode}
-use Rattle.scene_members.specs.declared.mode.SceneMode.TheVariants.{Live, Campaign}
+use Rattle.scene_members.specs.declared.mode.SceneMode.TheVariants.{Campaign}
 use Rattle.scene_members.specs.Paths.{path_of}
 use Rattle.scene_members.specs.Values.{member_of, needed_member, list_in, object_in, needed_number}
 use Rattle.scene_members.specs.CaseWalk.{Table, cases_from}
@@ -35,8 +35,8 @@ opening_in whole =
 -- ---- the cases
 
 abbrev pub most_cases_of : SceneMode → ℕ
-most_cases_of Live = most_flows
 most_cases_of Campaign = most_cases
+most_cases_of mode = most_flows
 
 abbrev pub few_items : SceneMode → Items → Result Items MemberFault
 few_items mode items =
@@ -49,7 +49,7 @@ total_acks (plan ∷ rest) = plan.link_numbers.acks + total_acks rest
 
 abbrev pub within_total : SceneMode → List Plan → Result (List Plan) MemberFault
 within_total Campaign cases = Ok cases
-within_total Live cases = if nat_le (total_acks cases) most_acks_in_all then Ok cases else Err Totals
+within_total mode cases = if nat_le (total_acks cases) most_acks_in_all then Ok cases else Err Totals
 
 -- the cases of a scenario whose programs have these names, and whose traces are these
 abbrev pub cases_in : SceneMode → List (List ℕ) → Table → Data → Result (List Plan) MemberFault
@@ -57,4 +57,4 @@ cases_in mode names traces whole =
     then_do (needed_member (Top key.Cases) (member_of key.Cases whole)) (λ value.
     then_do (list_in (Top key.Cases) value) (λ items.
     then_do (few_items mode items) (λ few.
-    then_do (cases_from names traces [] few) (λ cases. within_total mode cases))))
+    then_do (cases_from mode names traces [] few) (λ cases. within_total mode cases))))

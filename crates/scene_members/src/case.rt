@@ -8,15 +8,16 @@ ghost use Rattle.scene_members.specs.CaseWalk.{case_name, case_kind, trace_in, c
 ghost use Rattle.scene_members.specs.CaseWalk.{plan_in};
 ghost use Rattle.scene_members.specs.CaseLists.{plans_in};
 ghost use Rattle.scene_members.specs.Traces.{table_of};
-ghost use Rattle.scene_members.specs.Plans.{IsPlan};
+ghost use Rattle.scene_members.specs.Plans.{IsPlan, IsStart};
 ghost use Rattle.scene_members.specs.declared.fault.MemberFault.TheVariants as fault;
 
 use crate::case_losses::loss_plan;
-use crate::case_numbers::{agent_numbers, link_numbers};
+use crate::case_numbers::{agent_numbers, case_start, link_numbers};
 use crate::case_programs::programs;
 use crate::fault::MemberFault;
 use crate::json_place::JsonPlace;
 use crate::key::Key;
+use crate::mode::SceneMode;
 use crate::names::name;
 use crate::plan::{Plan, Plans};
 use crate::traces::{Traces, trace_named};
@@ -85,16 +86,19 @@ pub(crate) fn case_trace(
 /// What the members of a case say.
 fn members(
     alloc: Global,
+    mode: SceneMode,
     names: &[Name],
     traces: &Traces,
     i: usize,
     whole: &Value,
 ) -> Result<Plan, MemberFault>
     requires { length names.now ≤ most_named_programs }
-    ensures ok { IfOk result (λ p. case_members names.now (table_of traces.now.entries) i (view whole.now) ≡ Ok p) }
+    ensures ok { IfOk result (λ p.
+        case_members mode names.now (table_of traces.now.entries) i (view whole.now) ≡ Ok p) }
     ensures within { IfOk result (λ p. IsPlan (length names.now + built_in_count) p) }
+    ensures start { IfOk result (λ p. IsStart mode p.start_us) }
     ensures err { IfErr result (λ e. e ≢ fault.NoMemory
-        → case_members names.now (table_of traces.now.entries) i (view whole.now) ≡ Err e) }
+        → case_members mode names.now (table_of traces.now.entries) i (view whole.now) ≡ Err e) }
 {
     let name = case_name(alloc, i, whole)?;
     let kind = case_kind(alloc, i, whole)?;
@@ -102,6 +106,7 @@ fn members(
     let link_numbers = link_numbers(alloc, i, whole)?;
     let agent_numbers = agent_numbers(alloc, i, whole)?;
     let loss_plan = loss_plan(alloc, i, whole)?;
+    let start_us = case_start(alloc, mode, i, whole)?;
     let programs = programs(alloc, names, kind, i, whole)?;
     Ok(Plan {
         name,
@@ -110,45 +115,51 @@ fn members(
         link_numbers,
         agent_numbers,
         loss_plan,
+        start_us,
         programs,
     })
 }
 
 fn case_in(
     alloc: Global,
+    mode: SceneMode,
     names: &[Name],
     traces: &Traces,
     i: usize,
     whole: &Value,
 ) -> Result<Plan, MemberFault>
     requires { length names.now ≤ most_named_programs }
-    ensures ok { IfOk result (λ p. plan_in names.now (table_of traces.now.entries) i (view whole.now) ≡ Ok p) }
+    ensures ok { IfOk result (λ p. plan_in mode names.now (table_of traces.now.entries) i (view whole.now) ≡ Ok p) }
     ensures within { IfOk result (λ p. IsPlan (length names.now + built_in_count) p) }
+    ensures start { IfOk result (λ p. IsStart mode p.start_us) }
     ensures err { IfErr result (λ e. e ≢ fault.NoMemory
-        → plan_in names.now (table_of traces.now.entries) i (view whole.now) ≡ Err e) }
+        → plan_in mode names.now (table_of traces.now.entries) i (view whole.now) ≡ Err e) }
 {
     object(alloc, JsonPlace::Case(i), whole)?;
-    members(alloc, names, traces, i, whole)
+    members(alloc, mode, names, traces, i, whole)
 }
 
 /// What cases say, in order.
 #[tactic(auto, using(crate::proofs::ListLemmas::all_pushed))]
 pub(crate) fn cases_from(
     alloc: Global,
+    mode: SceneMode,
     names: &[Name],
     traces: &Traces,
     values: &[Value],
 ) -> Result<Plans, MemberFault>
     requires { length names.now ≤ most_named_programs }
-    ensures ok { IfOk result (λ ps. plans_in names.now traces.now.entries values.now ≡ Ok ps) }
+    ensures ok { IfOk result (λ ps. plans_in mode names.now traces.now.entries values.now ≡ Ok ps) }
     ensures within { IfOk result (λ ps. All (IsPlan (length names.now + built_in_count)) ps) }
+    ensures starts { IfOk result (λ ps. All (λ p. IsStart mode p.start_us) ps) }
     ensures count { IfOk result (λ ps. length ps ≡ length values.now) }
-    ensures err { IfErr result (λ e. e ≢ fault.NoMemory → plans_in names.now traces.now.entries values.now ≡ Err e) }
+    ensures err { IfErr result (λ e. e ≢ fault.NoMemory
+        → plans_in mode names.now traces.now.entries values.now ≡ Err e) }
 {
     let mut plans = Sequence::new(alloc);
     let mut rest = values;
     while let Some((value, later)) = rest.split_first() {
-        plans.push(case_in(alloc, names, traces, plans.len(), value)?)?;
+        plans.push(case_in(alloc, mode, names, traces, plans.len(), value)?)?;
         rest = later;
     }
     Ok(plans)

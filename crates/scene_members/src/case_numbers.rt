@@ -1,14 +1,15 @@
-//! How a case's numbers are read, with the defaults for slots and lag.
+//! How a case's numbers are read, with the defaults for slots, lag and start.
 ghost use Rattle.std.specs.Prelude.{◌≡◌, ◌≢◌, ◌≤◌, IfOk, IfErr, Ok, Err};
 ghost use Rattle.serde_json.specs.View.{view};
 ghost use Rattle.scene_members.specs.Keys.{least_of, greatest_value};
-ghost use Rattle.scene_members.specs.Plans.{AreLinkNumbers, AreAgentNumbers};
-ghost use Rattle.scene_members.specs.CaseWalk.{case_number, case_link_numbers, case_agent_numbers};
+ghost use Rattle.scene_members.specs.Plans.{AreLinkNumbers, AreAgentNumbers, IsStart};
+ghost use Rattle.scene_members.specs.CaseWalk.{case_number, case_link_numbers, case_agent_numbers, case_start};
 ghost use Rattle.scene_members.specs.declared.fault.MemberFault.TheVariants as fault;
 
 use crate::fault::MemberFault;
 use crate::json_place::JsonPlace;
 use crate::key::Key;
+use crate::mode::SceneMode;
 use crate::plan::{AgentNumbers, LinkNumbers};
 use crate::values::{needed_number, number_or};
 use serde_json::Value;
@@ -78,4 +79,27 @@ pub(crate) fn agent_numbers(
         slots: slots as u32,
         lag: lag as u32,
     })
+}
+
+/// When the case's flow starts, in microseconds of the time of the link that it shares. Other modes ignore the member.
+pub(crate) fn case_start(
+    alloc: Global,
+    mode: SceneMode,
+    i: usize,
+    whole: &Value,
+) -> Result<u64, MemberFault>
+    ensures ok { IfOk result (λ n. case_start mode i (view whole.now) ≡ Ok n) }
+    ensures within { IfOk result (IsStart mode) }
+    ensures err { IfErr result (λ e. e ≢ fault.NoMemory → case_start mode i (view whole.now) ≡ Err e) }
+{
+    match mode {
+        SceneMode::Shared => number_or(
+            alloc,
+            JsonPlace::In(i, Key::StartUs),
+            whole,
+            Key::StartUs,
+            0,
+        ),
+        SceneMode::Live | SceneMode::Campaign => Ok(0),
+    }
 }

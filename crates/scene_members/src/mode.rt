@@ -1,4 +1,4 @@
-//! What a scenario is read for, a live run or a campaign, which bounds its number of cases.
+//! What a scenario is read for, which bounds its number of cases and says which of their members are read.
 ghost use Rattle.std.specs.Prelude.{◌≡◌};
 ghost use Rattle.scene_members.specs.Whole.{most_cases_of};
 
@@ -9,6 +9,8 @@ pub enum SceneMode {
     Live,
     /// A campaign: at most 1,024 cases.
     Campaign,
+    /// Flows over one link: the limits of a live run, and each case may say when its flow starts.
+    Shared,
 }
 
 impl SceneMode {
@@ -17,7 +19,7 @@ impl SceneMode {
         ensures { result ≡ most_cases_of self }
     {
         match self {
-            SceneMode::Live => 64,
+            SceneMode::Live | SceneMode::Shared => 64,
             SceneMode::Campaign => 1024,
         }
     }

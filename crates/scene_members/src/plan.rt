@@ -1,4 +1,4 @@
-//! What one case of a scenario says: agent, trace, numbers, losses, marks, and its programs by number.
+//! What one case of a scenario says: agent, trace, numbers, losses, marks, start, and its programs by number.
 use agent_core::Kind;
 use ccp_base::{Name, Sequence};
 use link_model::Trace;
@@ -50,6 +50,8 @@ pub struct Plan {
     pub link_numbers: LinkNumbers,
     pub agent_numbers: AgentNumbers,
     pub loss_plan: LossPlan,
+    /// When the flow starts, in microseconds of the link's time; 0 unless the scenario is read for flows over one link.
+    pub start_us: u64,
     pub programs: Programs,
 }
 

@@ -4,7 +4,7 @@ ghost use Rattle.std.specs.List.{All};
 ghost use Rattle.serde_json.specs.View.{view, items_view};
 ghost use Rattle.ccp_base.specs.Limits.{most_cases, most_named_programs};
 ghost use Rattle.agent_core.specs.Kinds.{built_in_count};
-ghost use Rattle.scene_members.specs.Plans.{IsPlan};
+ghost use Rattle.scene_members.specs.Plans.{IsPlan, IsStart};
 ghost use Rattle.scene_members.specs.Traces.{table_of};
 ghost use Rattle.scene_members.specs.Whole.{most_cases_of, few_items, cases_in, total_acks, within_total, opening_in};
 ghost use Rattle.scene_members.specs.declared.fault.MemberFault.TheVariants as fault;
@@ -68,7 +68,8 @@ fn within_total(mode: SceneMode, plans: Plans) -> Result<Plans, MemberFault>
     ensures err { IfErr result (λ e. within_total mode plans ≡ Err e) }
 {
     match mode {
-        SceneMode::Live if acks_of(plans.as_slice()) > ACKS_IN_ALL => Err(MemberFault::Totals),
+        SceneMode::Campaign => Ok(plans),
+        _ if acks_of(plans.as_slice()) > ACKS_IN_ALL => Err(MemberFault::Totals),
         _ => Ok(plans),
     }
 }
@@ -84,6 +85,7 @@ pub fn cases_in(
     requires { length names.now ≤ most_named_programs }
     ensures ok { IfOk result (λ ps. cases_in mode names.now (table_of traces.now.entries) (view whole.now) ≡ Ok ps) }
     ensures within { IfOk result (λ ps. All (IsPlan (length names.now + built_in_count)) ps) }
+    ensures starts { IfOk result (λ ps. All (λ p. IsStart mode p.start_us) ps) }
     ensures count { IfOk result (λ ps. length ps ≤ most_cases_of mode) }
     ensures err { IfErr result (λ e. e ≢ fault.NoMemory
         → cases_in mode names.now (table_of traces.now.entries) (view whole.now) ≡ Err e) }
@@ -92,6 +94,6 @@ pub fn cases_in(
     let value = needed_member(alloc, place, whole, Key::Cases)?;
     let items = list(alloc, place, value)?;
     few_items(alloc, mode, items.as_slice())?;
-    let plans = cases_from(alloc, names, traces, items.as_slice())?;
+    let plans = cases_from(alloc, mode, names, traces, items.as_slice())?;
     within_total(mode, plans)
 }

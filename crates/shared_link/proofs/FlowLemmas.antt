@@ -3,11 +3,11 @@ use Rattle.std.proofs.Common.{◌≡◌, ℕ, suc, ◌+◌, ◌<◌, ◌≤◌, 
 use Rattle.std.proofs.lemmas.Bool.Decides.{nat_tests}
 use Rattle.link_model.specs.Traces.{IsTrace}
 use Rattle.link_model.specs.Chances.{chance_time}
-use Rattle.link_model.specs.Link.{Packet, Fate, Lost, Served, GivenAck, Numbered, packet_and_lost_below, all_below, chance_past, left_by, lost_by, in_flight, acked_of, Next, arrives, all_lost, next_arrival}
+use Rattle.link_model.specs.Link.{Packet, Fate, Lost, Served, GivenAck, Numbered, packet_and_lost_below, all_below, chance_past, left_by, lost_by, in_flight, time_of, acked_of, Next, arrives, all_lost, next_arrival}
 use Rattle.link_model.specs.Link as link
 use Rattle.link_model.specs.Standing.{packets_of}
 use Rattle.link_model.specs.Flights.{IsServedWithin, AllServedWithin, RisesFrom, AllBelow}
-use Rattle.link_model.proofs.Whole.{staying, staying_by}
+use Rattle.link_model.proofs.Whole.{Landing, Arrived, AllLost, landing, landing_by, staying}
 use Rattle.link_model.proofs.ChanceLemmas.{chance_time_rises}
 use Rattle.link_model.proofs.ServedLemmas.{all_served_within-more, all_served_within-push, all_served_within-staying}
 use Rattle.link_model.proofs.FlightLemmas.{RisesFrom-push, AllBelow-push, AllBelow-more, RisesFrom-left_by, AllBelow-left_by, all_take_below-more, in_flight-sent, packets_of-push, left_by-all_below, MatchNext, match_next}
@@ -41,32 +41,27 @@ module _ (times : List ℕ) (trace : IsTrace times) (delay : ℕ) where
   ArriveFrom-lost from sent_at [] before = (tt, tt)
   ArriveFrom-lost from sent_at (packet ∷ rest) before = (before.0, ArriveFrom-lost (after_arrival times delay from packet.fate) sent_at rest before.1)
 
-  arrives_less : (from less : ℕ) (fate : Fate) → less ≤ from → ArrivesFrom times delay from fate → ArrivesFrom times delay less fate
-  arrives_less from less Lost order before = tt
-  arrives_less from less (Served own marked) order before = omega (arith, before)
+  -- the first packet that isn't lost arrives at this time or later, and was sent no later than its chance; those after it
+  -- arrive from then on
+  abbrev pub Lands : ℕ → List Packet → Landing → Type 0
+  Lands from packets (Arrived sent_at chance marked lost) =
+      (from ≤ chance_time times chance + delay) × (sent_at ≤ chance_time times chance) × ArriveFrom times delay (chance_time times chance + delay) (staying packets)
+  Lands from packets (AllLost lost) = Unit {0}
 
-  after_less : (from less : ℕ) (fate : Fate) → less ≤ from → after_arrival times delay less fate ≤ after_arrival times delay from fate
-  after_less from less Lost order = order
-  after_less from less (Served own marked) order = omega arith
+  lands_after : (from sent_at : ℕ) (rest : List Packet) (later : Landing) → Lands from rest later → Lands from (record { sent_at = sent_at; fate = Lost } ∷ rest) later
+  lands_after from sent_at rest (Arrived own chance marked lost) lands = lands
+  lands_after from sent_at rest (AllLost lost) lands = tt
 
-  ArriveFrom-less : (from less : ℕ) (packets : List Packet) → less ≤ from → ArriveFrom times delay from packets → ArriveFrom times delay less packets
-  ArriveFrom-less from less [] order before = tt
-  ArriveFrom-less from less (packet ∷ rest) order before = (
-    arrives_less from less packet.fate order before.0,
-    ArriveFrom-less (after_arrival times delay from packet.fate) (after_arrival times delay less packet.fate) rest (after_less from less packet.fate order) before.1,
-  )
+  lands_by : (past from lost sent_at : ℕ) (fate : Fate) (rest : List Packet) (later : Landing) → ArrivesFrom times delay from fate → ArriveFrom times delay (after_arrival times delay from fate) rest
+      → IsServedWithin times past sent_at fate → (ArriveFrom times delay from rest → Lands from rest later)
+      → Lands from (record { sent_at = sent_at; fate = fate } ∷ rest) (landing_by fate sent_at lost later)
+  lands_by past from lost sent_at Lost rest later here after within then_ = lands_after from sent_at rest later (then_ after)
+  lands_by past from lost sent_at (Served own marked) rest later here after within then_ = (here, within.1, after)
 
-  -- what stays arrives one after another, too
-  staying_from : (from : ℕ) (fate : Fate) (rest later : List Packet) → ArrivesFrom times delay from fate → ArriveFrom times delay (after_arrival times delay from fate) rest
-      → (ArriveFrom times delay (after_arrival times delay from fate) rest → ArriveFrom times delay (after_arrival times delay from fate) later)
-      → ArriveFrom times delay from (staying_by fate rest later)
-  staying_from from Lost rest later here after then_ = then_ after
-  staying_from from (Served own marked) rest later here after then_ = ArriveFrom-less (chance_time times own + delay) from rest here after
-
-  ArriveFrom-staying : (from : ℕ) (packets : List Packet) → ArriveFrom times delay from packets → ArriveFrom times delay from (staying packets)
-  ArriveFrom-staying from [] before = tt
-  ArriveFrom-staying from (packet ∷ rest) before =
-      staying_from from packet.fate rest (staying rest) before.0 before.1 (ArriveFrom-staying (after_arrival times delay from packet.fate) rest)
+  pub lands_from : (past from lost : ℕ) (packets : List Packet) → ArriveFrom times delay from packets → AllServedWithin times past packets → Lands from packets (landing packets lost)
+  lands_from past from lost [] before within = tt
+  lands_from past from lost (packet ∷ rest) before within =
+      lands_by past from lost packet.sent_at packet.fate rest (landing rest (lost + 1)) before.0 before.1 within.0 (λ after. lands_from past from (lost + 1) rest after within.1)
 
   -- if the first one arrives too late, all do
   late : (a end : ℕ) → end ≤ a → ltb a end ≡ false
@@ -116,6 +111,8 @@ flow_settled-first times delay past = record {
   served = tt;
   arriving = tt;
   counts = omega arith;
+  order = tt;
+  samples = tt;
 }
 
 -- other flows may get chances
@@ -127,6 +124,8 @@ flow_settled-more times delay past more packets givens order settled = record {
   served = all_served_within-more times past more (packets_of (in_flight packets givens)) order settled.served;
   arriving = settled.arriving;
   counts = settled.counts;
+  order = settled.order;
+  samples = settled.samples;
 }
 
 -- ---- one more packet
@@ -140,19 +139,19 @@ module _ (times : List ℕ) (trace : IsTrace times) (delay past : ℕ) (packets 
       all_served_within-push times (max (own + 1) past) flight (record { sent_at = now; fate = Served own marked })
       (all_served_within-more times past (max (own + 1) past) flight (omega arith) within) (omega arith, not_before)
 
-  arriving_by : (b marked : Bool) (now own : ℕ) (flight : List Packet) → past ≤ own → AllServedWithin times past flight
-      → ArriveFrom times delay 0 flight → ArriveFrom times delay 0 (flight ++ record { sent_at = now; fate = cond b Lost (Served own marked) } ∷ [])
-  arriving_by true marked now own flight order within before = ArriveFrom-lost times trace delay 0 now flight before
-  arriving_by false marked now own flight order within before =
-      ArriveFrom-served times trace delay 0 past own now marked flight (omega arith) within order before
+  arriving_by : (b marked : Bool) (from now own : ℕ) (flight : List Packet) → from ≤ chance_time times own + delay → past ≤ own → AllServedWithin times past flight
+      → ArriveFrom times delay from flight → ArriveFrom times delay from (flight ++ record { sent_at = now; fate = cond b Lost (Served own marked) } ∷ [])
+  arriving_by true marked from now own flight early order within before = ArriveFrom-lost times trace delay from now flight before
+  arriving_by false marked from now own flight early order within before =
+      ArriveFrom-served times trace delay from past own now marked flight early within order before
 
   pub flight_sent : (packet : Packet) → packets_of (in_flight (packet ∷ packets) givens) ≡ packets_of (in_flight packets givens) ++ packet ∷ []
   flight_sent packet =
       ap packets_of (in_flight-sent packets packet givens settled.takings) ∙ packets_of-push (in_flight packets givens) (record { number = length packets; packet = packet })
 
-  pub flow_settled-sent : (b marked : Bool) (now own : ℕ) → past ≤ own → now ≤ chance_time times own
+  pub flow_settled-sent : (b marked : Bool) (now own : ℕ) → past ≤ own → now ≤ chance_time times own → time_of givens ≤ now
       → FlowSettled times delay (chance_past (cond b Lost (Served own marked)) past) (record { sent_at = now; fate = cond b Lost (Served own marked) } ∷ packets) givens
-  flow_settled-sent b marked now own order not_before =
+  flow_settled-sent b marked now own order not_before acked_before =
       let packet : Packet = record { sent_at = now; fate = cond b Lost (Served own marked) } in
       let flight = in_flight packets givens in
       let last : Numbered = record { number = length packets; packet = packet } in
@@ -164,8 +163,11 @@ module _ (times : List ℕ) (trace : IsTrace times) (delay past : ℕ) (packets 
             (AllBelow-push (suc (length packets)) flight last (AllBelow-more (length packets) (suc (length packets)) flight (omega arith) settled.below) (omega arith));
         served = subst (AllServedWithin times (chance_past (cond b Lost (Served own marked)) past)) (sym (flight_sent packet))
             (served_by b marked now own (packets_of flight) order not_before settled.served);
-        arriving = subst (ArriveFrom times delay 0) (sym (flight_sent packet)) (arriving_by b marked now own (packets_of flight) order settled.served settled.arriving);
+        arriving = subst (ArriveFrom times delay (time_of givens)) (sym (flight_sent packet))
+            (arriving_by b marked (time_of givens) now own (packets_of flight) (omega (arith, not_before, acked_before)) order settled.served settled.arriving);
         counts = omega (arith, settled.counts, ap length sent, length-append flight (last ∷ []));
+        order = settled.order;
+        samples = settled.samples;
       }
 
 -- ---- an acknowledgement
@@ -179,17 +181,21 @@ module _ (times : List ℕ) (trace : IsTrace times) (link : FlowLink) (past : �
   flow_settled-arrived number sent_at chance marked same before =
       let flight = in_flight packets givens in
       let counted = count_next (length packets) flight (arrives number sent_at chance marked) same settled.below in
+      let from = time_of givens in
+      let landed = subst (λ (l : Landing). Lands times trace link.delay_us from (packets_of flight) l) same.0 (lands_from times trace link.delay_us past from 0 (packets_of flight) settled.arriving settled.served) in
       record {
         takings = (before, settled.takings);
         rises = RisesFrom-left_by (packet_and_lost_below number) 0 flight settled.rises;
         below = AllBelow-left_by (packet_and_lost_below number) (length packets) flight settled.below;
         served = subst (AllServedWithin times past) (sym same.1) (all_served_within-staying times past (packets_of flight) settled.served);
-        arriving = subst (ArriveFrom times link.delay_us 0) (sym same.1) (ArriveFrom-staying times trace link.delay_us 0 (packets_of flight) settled.arriving);
+        arriving = subst (ArriveFrom times link.delay_us (chance_time times chance + link.delay_us)) (sym same.1) landed.2;
         counts = omega (arith, counted, settled.counts);
+        order = (landed.0, settled.order);
+        samples = (record { packet = λ is. omega (arith, landed.1); timeout = λ is. absurd (let h : false ≡ true = is in cc) }, settled.samples);
       }
 
-  pub flow_settled-timed_out : (now : ℕ) → FlowSettled times link.delay_us past packets (timeout_given link packets givens (in_flight packets givens) now ∷ givens)
-  flow_settled-timed_out now =
+  pub flow_settled-timed_out : (now : ℕ) → time_of givens ≤ now → FlowSettled times link.delay_us past packets (timeout_given link packets givens (in_flight packets givens) now ∷ givens)
+  flow_settled-timed_out now later =
       let flight = in_flight packets givens in
       let none : left_by (all_below (length packets)) flight ≡ [] = left_by-all_below (length packets) flight settled.below in
       record {
@@ -197,6 +203,8 @@ module _ (times : List ℕ) (trace : IsTrace times) (link : FlowLink) (past : �
         rises = subst (RisesFrom 0) (sym none) tt;
         below = subst (AllBelow (length packets)) (sym none) tt;
         served = subst (λ (xs : List Numbered). AllServedWithin times past (packets_of xs)) (sym none) tt;
-        arriving = subst (λ (xs : List Numbered). ArriveFrom times link.delay_us 0 (packets_of xs)) (sym none) tt;
+        arriving = subst (λ (xs : List Numbered). ArriveFrom times link.delay_us now (packets_of xs)) (sym none) tt;
         counts = omega (arith, settled.counts, ap length none);
+        order = (later, settled.order);
+        samples = (record { packet = λ is. absurd (let h : true ≡ false = is in cc); timeout = λ is. refl }, settled.samples);
       }

@@ -62,11 +62,11 @@ ready-set case rounds flows at traffic within ready here = record {
       each_set (λ f t. IsFlowReady (flow_link_at case f) rounds t) flows at traffic within (λ f o i apart. ready.each f o i) here flow other (omega (arith, inside, length-set flows at traffic));
 }
 
-pub prepared-set : (case : SharedCase) (asks : List Ask) (bound more : ℕ) (flows : List FlowTraffic) (at : ℕ) (traffic : FlowTraffic) → at < length flows → more ≤ length flows → ArePrepared case asks bound flows
-    → ((flow : ℕ) → flow < more → flow ≢ at → flow < bound) → IsPrepared case asks at traffic
-    → ArePrepared case asks more (set flows at traffic)
-prepared-set case asks bound more flows at traffic within most prepared before here flow other below =
-    each_set (λ f t. f < more → IsPrepared case asks f t) flows at traffic within
+pub prepared-set : (case : SharedCase) (now : ℕ) (asks : List Ask) (bound more : ℕ) (flows : List FlowTraffic) (at : ℕ) (traffic : FlowTraffic) → at < length flows → more ≤ length flows → ArePrepared case now asks bound flows
+    → ((flow : ℕ) → flow < more → flow ≢ at → flow < bound) → IsPrepared case now asks at traffic
+    → ArePrepared case now asks more (set flows at traffic)
+prepared-set case now asks bound more flows at traffic within most prepared before here flow other below =
+    each_set (λ f t. f < more → IsPrepared case now asks f t) flows at traffic within
     (λ f o i apart under. prepared f o (before f under apart)) (λ under. here) flow other (omega arith) below
 
 -- ---- one more packet

@@ -14,7 +14,7 @@ use Rattle.link_model.proofs.Whole.{Landing, Arrived, AllLost, landing, landing_
 use Rattle.link_model.proofs.HorizonLemmas.{count-lost, count-push}
 use Rattle.link_model.proofs.FlightLemmas.{MatchNext, IsNextBelow, next_below, left_by-all_below, length-packets_of}
 use Rattle.shared_link.specs.declared.shared_case.FlowLink.{FlowLink}
-use Rattle.shared_link.specs.SharedRounds.{arrival_given, are_lost, timeout_at, timeout_given, timeouts, answers, answers_after, with_givens, acks_of_givens}
+use Rattle.shared_link.specs.SharedRounds.{since_start, arrival_given, are_lost, timeout_at, timeout_given, timeouts, answers, answers_after, with_givens, acks_of_givens}
 use Rattle.shared_link.specs.SharedStanding.{Flight, FlowStanding, no_flight, with_fate, with_packets, flow_standing}
 use Rattle.shared_link.specs.Reached.{FlowSettled}
 use Rattle.shared_link.specs.Kept.{AnsweredFlow, with_one, with_arrival, with_timeout, timeout_now, timed_out, answered_by, answered_all}
@@ -179,7 +179,7 @@ module _ (times : List ℕ) (trace : IsTrace times) (link : FlowLink) (end past 
         let at = chance_time times chance + link.delay_us in
         let stays = packets_of (left_by (packet_and_lost_below number) flight) in
         let rest = with_packets times link.delay_us (staying (packets_of flight)) no_flight in
-        let ack : ℕ → ℕ → Ack = λ lost stay. arrival_ack_of link.mss sent_at at marked (past_of givens) lost stay (acked_of givens + 1) (length packets) in
+        let ack : ℕ → ℕ → Ack = λ lost stay. since_start link.mss link.start_us (acked_of givens + 1) (length packets) (arrival_ack_of link.mss sent_at at marked (past_of givens) lost stay (acked_of givens + 1) (length packets)) in
         let with_stay : ℕ → Flight → ℕ → ℕ → AnsweredFlow = λ stay left acked gone. parts acks at (ack n stay) left acked gone in
         let count : flight_count rest.arrivals rest.lost ≡ length (left_by (packet_and_lost_below number) flight) =
         ap (λ ps. flight_count (with_packets times link.delay_us ps no_flight).arrivals (with_packets times link.delay_us ps no_flight).lost) (sym same.1)
@@ -199,7 +199,7 @@ module _ (times : List ℕ) (trace : IsTrace times) (link : FlowLink) (end past 
     timeout now lost lost_is count =
         let flight = in_flight packets givens in
         let none : left_by (all_below (length packets)) flight ≡ [] = left_by-all_below (length packets) flight settled.below in
-        let ack : ℕ → ℕ → Ack = λ n stay. timeout_ack_of link.mss now (past_of givens) n stay (acked_of givens) (length packets) in
+        let ack : ℕ → ℕ → Ack = λ n stay. since_start link.mss link.start_us (acked_of givens) (length packets) (timeout_ack_of link.mss now (past_of givens) n stay (acked_of givens) (length packets)) in
         ap (λ n. parts acks now (ack n 0) no_flight (acked_of givens) (lost_of givens + n)) (lost_is ∙ count)
         ∙ ap (λ xs. parts acks now (ack (length flight) (length xs)) (with_packets times link.delay_us (packets_of xs) no_flight) (acked_of givens) (lost_of givens + length flight)) (sym none)
         ∙ ap (parts acks now (ack (length flight) (length (left_by (all_below (length packets)) flight))) (with_packets times link.delay_us (packets_of (left_by (all_below (length packets)) flight)) no_flight) (acked_of givens)) (add_comm (lost_of givens) (length flight))
@@ -304,4 +304,4 @@ module _ (times : List ℕ) (trace : IsTrace times) (link : FlowLink) (end past 
       let go : GivenAck → List GivenAck = λ given. given ∷ answers times link end packets left (given ∷ givens) in
       kept-next left acks givens settled (λ more given after. kept-answers left more (given ∷ givens) after) (next_arrival flight) refl
       (matches times trace link past packets givens settled) (next_below (length packets) flight settled.below)
-      ∙ ap (λ n. come_to acks givens settled (answers_after times link end packets givens flight n go)) (sym (next_before_of times trace link.delay_us end 0 flight settled.arriving))
+      ∙ ap (λ n. come_to acks givens settled (answers_after times link end packets givens flight n go)) (sym (next_before_of times trace link.delay_us end (time_of givens) flight settled.arriving))

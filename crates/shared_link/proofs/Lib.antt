@@ -5,5 +5,6 @@ mod KeptLemmas
 mod LinkLemmas
 mod RoundLemmas
 mod SendingLemmas
+mod StartLemmas
 mod TimeLemmas
 mod WorkedRounds

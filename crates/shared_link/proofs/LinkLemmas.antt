@@ -29,7 +29,7 @@ module _ (case : SharedCase) (trace : IsTrace case.trace) (asks : List Ask) (bef
     (count : length first ≡ length case.flows) (last_count : length last ≡ length case.flows)
     (same : map flow_under_way first ≡ map flow_under_way flows)
     (now_is : at.now ≡ before * case.quantum_us) (next_is : at.next ≡ next) (end_is : end ≡ before * case.quantum_us + case.quantum_us)
-    (sending : (sent : List Sent) (givens : ℕ → List GivenAck) → Follows case first at sent givens → Follows case sent_flows after (turns_of case at.now (allowed case asks) givens most_flight sent) givens)
+    (sending : (sent : List Sent) (givens : ℕ → List GivenAck) → Follows case first at sent givens → Follows case sent_flows after (turns_of case at.now (allowed case at.now asks) givens most_flight sent) givens)
     (answering : (now : ℕ) (sent : List Sent) (givens : ℕ → List GivenAck) → Settled case now sent givens → FlowsFollow case sent_flows sent givens → AnsweredTo case asks end last answers (length last) sent givens)
     (rounds : List (List Ask)) (stands : Stands (link_state case before next flows) rounds) where
   run : SharedLinkRun
@@ -58,7 +58,7 @@ module _ (case : SharedCase) (trace : IsTrace case.trace) (asks : List Ask) (bef
 
   follows_after : Follows case sent_flows after (sent_by case asks (shared_run_of case rounds)) (shared_run_of case rounds).givens
   follows_after =
-      subst (λ n. Follows case sent_flows after (turns_of case n (allowed case asks) (shared_run_of case rounds).givens most_flight (shared_run_of case rounds).sent) (shared_run_of case rounds).givens) now_round
+      subst (λ n. Follows case sent_flows after (turns_of case n (allowed case n asks) (shared_run_of case rounds).givens most_flight (shared_run_of case rounds).sent) (shared_run_of case rounds).givens) now_round
       (sending (shared_run_of case rounds).sent (shared_run_of case rounds).givens follows_at)
 
   answered : AnsweredTo case asks (round_time case ((shared_run_of case rounds).rounds + 1)) last answers (length case.flows) (sent_by case asks (shared_run_of case rounds)) (shared_run_of case rounds).givens

@@ -22,10 +22,10 @@ allowed_if false allowance within = within
 allowance_within : (mss window : ℕ) → allowance_of mss window ≤ most_flight
 allowance_within mss window = omega arith
 
-pub allowed_within : (case : SharedCase) (asks : List Ask) (flow : ℕ) → allowed case asks flow ≤ most_flight
-allowed_within case asks flow =
+pub allowed_within : (case : SharedCase) (now : ℕ) (asks : List Ask) (flow : ℕ) → allowed case now asks flow ≤ most_flight
+allowed_within case now asks flow =
     let allowance = allowance_of (flow_link_at case flow).mss (ask_at asks flow).window in
-    allowed_if (eqb (ask_at asks flow).left 0) allowance (allowance_within (flow_link_at case flow).mss (ask_at asks flow).window)
+    allowed_if (eqb (ask_at asks flow).left 0 || ltb now (flow_link_at case flow).start_us) allowance (allowance_within (flow_link_at case flow).mss (ask_at asks flow).window)
 
 -- ---- one packet, a turn, and all turns
 
@@ -166,5 +166,5 @@ module _ (case : SharedCase) (now : ℕ) (givens : ℕ → List GivenAck) (may :
 pub none_lacks-round : (case : SharedCase) (trace : IsTrace case.trace) (asks : List Ask) (rounds : List (List Ask)) → NoneLacks case asks (shared_run_of case rounds)
 none_lacks-round case trace asks rounds =
     let run = shared_run_of case rounds in
-    none_lacks-turns case trace (round_time case run.rounds) run.givens (allowed case asks) most_flight run.sent (settled-run case trace rounds)
-    (λ flow within. omega (arith, allowed_within case asks flow))
+    none_lacks-turns case trace (round_time case run.rounds) run.givens (allowed case (round_time case run.rounds) asks) most_flight run.sent (settled-run case trace rounds)
+    (λ flow within. omega (arith, allowed_within case (round_time case run.rounds) asks flow))

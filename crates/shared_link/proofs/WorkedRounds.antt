@@ -1,12 +1,13 @@
 -- What the definition of a shared link gives for a few short lists of rounds.
-use Rattle.std.proofs.Common.{◌≡◌, List, ℕ, [], ◌∷◌, None, refl}
+use Rattle.std.proofs.Common.{◌≡◌, List, ℕ, ◌*◌, [], ◌∷◌, false, None, refl}
+use Rattle.ccp_base.specs.declared.ack.Ack.{Ack}
 use Rattle.shared_link.specs.declared.shared_case.FlowLink.{FlowLink}
 use Rattle.shared_link.specs.declared.shared_case.SharedCase.{SharedCase}
 use Rattle.shared_link.specs.declared.round.Ask.{Ask}
-use Rattle.shared_link.specs.SharedRounds.{counts_of}
+use Rattle.shared_link.specs.SharedRounds.{own_packets, since_start, shared_run_of, acks_after, counts_of}
 
 abbrev flow : FlowLink
-flow = record { mss = 1448; delay_us = 20000; timeout_us = 1000000; losses = []; mark = None }
+flow = record { mss = 1448; delay_us = 20000; timeout_us = 1000000; losses = []; mark = None; start_us = 0 }
 
 abbrev one_flow : SharedCase
 one_flow = record { trace = 10 ∷ []; queue = 10; quantum_us = 10000; flows = flow ∷ [] }
@@ -37,3 +38,57 @@ both = record { window = 2896; left = 4 } ∷ record { window = 2896; left = 4 }
 
 lost_by_the_queue : counts_of two_flows (both ∷ []) ≡ record { rounds = 1; sent = 4; acked = 0; lost = 0; inflight = 4 }
 lost_by_the_queue = refl
+
+-- two flows, of which the second one starts after two rounds of 10 ms; each asks for two packets
+abbrev late_flow : FlowLink
+late_flow =
+    record { mss = 1448; delay_us = 5000; timeout_us = 1000000; losses = []; mark = None; start_us = 20000 }
+
+abbrev one_later : SharedCase
+one_later = record { trace = 10 ∷ []; queue = 10; quantum_us = 10000; flows = flow ∷ late_flow ∷ [] }
+
+nothing_before_the_start : own_packets 1 (shared_run_of one_later (both ∷ both ∷ [])).sent ≡ []
+nothing_before_the_start = refl
+
+two_at_the_start : counts_of one_later (both ∷ both ∷ both ∷ []) ≡ record { rounds = 3; sent = 4; acked = 0; lost = 0; inflight = 4 }
+two_at_the_start = refl
+
+-- a flow that starts at 20 ms on a link with a chance each millisecond, in rounds of 5 ms. It sends three packets then,
+-- and its rates are over the time since: at 26 ms they are 1448 * 1 * 1000000 / 6000 and 1448 * 3 * 1000000 / 6000.
+abbrev started_flow : FlowLink
+started_flow =
+    record { mss = 1448; delay_us = 6000; timeout_us = 200000; losses = []; mark = None; start_us = 20000 }
+
+abbrev one_started : SharedCase
+one_started = record { trace = 1 ∷ []; queue = 10; quantum_us = 5000; flows = started_flow ∷ [] }
+
+abbrev five_rounds : List (List Ask)
+five_rounds = asks 4344 9 ∷ asks 4344 9 ∷ asks 4344 9 ∷ asks 4344 9 ∷ asks 4344 9 ∷ []
+
+-- the acknowledgement at a time, with how many packets stay in flight, its rates and its round-trip sample
+abbrev ack_at : ℕ → ℕ → ℕ → ℕ → ℕ → Ack
+ack_at now stay incoming outgoing sample = record {
+  bytes_acked = 1448;
+  packets_acked = 1;
+  bytes_misordered = 0;
+  packets_misordered = 0;
+  ecn_bytes = 0;
+  ecn_packets = 0;
+  lost_pkts_sample = 0;
+  now = now;
+  bytes_in_flight = 1448 * stay;
+  packets_in_flight = stay;
+  bytes_pending = 0;
+  rate_incoming = incoming;
+  rate_outgoing = outgoing;
+  rtt_sample_us = sample;
+  was_timeout = false;
+}
+
+rates_since_the_start : acks_after one_started five_rounds (asks 4344 9)
+    ≡ (ack_at 26000 2 241333 724000 6000 ∷ ack_at 27000 1 413714 620571 7000 ∷ ack_at 28000 0 543000 543000 8000 ∷ []) ∷ []
+rates_since_the_start = refl
+
+-- at the start they are 0
+no_rates_at_the_start : (since_start 1448 20000 1 3 (ack_at 20000 2 72400 217200 6000)).rate_outgoing ≡ 0
+no_rates_at_the_start = refl

@@ -14,7 +14,7 @@ use Rattle.shared_link.specs.declared.shared_case.SharedCase.{SharedCase}
 use Rattle.shared_link.specs.declared.round.Ask.{Ask}
 use Rattle.shared_link.specs.declared.flow_traffic.FlowTraffic.{FlowTraffic}
 use Rattle.shared_link.specs.declared.sending.Sending.{Sending}
-use Rattle.shared_link.specs.SharedRounds.{Sent, flow_link_at, ask_at, every_packet, own_packets, allowed, turns_of, answers, with_givens, acks_of_givens, each_flow}
+use Rattle.shared_link.specs.SharedRounds.{Sent, flow_link_at, ask_at, every_packet, own_packets, allowed, turns_of, since_start, answers, with_givens, acks_of_givens, each_flow}
 use Rattle.shared_link.specs.SharedStanding.{FlowStanding, SharedState, no_flight, with_fate, flow_standing}
 use Rattle.shared_link.specs.SharedLimits.{IsWithin}
 use Rattle.shared_link.specs.Reached.{Settled}
@@ -115,8 +115,9 @@ answered_in flow = record { acks = flow.acks.items; standing = flow_under_way fl
 -- the acknowledgement of the first packet in flight that isn't lost
 abbrev pub arrival_ack_to : FlowLink → Arrival → FlowStanding → Ack
 arrival_ack_to link arrival standing =
-    arrival_ack_of link.mss arrival.sent_at arrival.at arrival.marked standing.past arrival.lost
-    (flight_count (drop 1 standing.flight.arrivals) standing.flight.lost) (standing.acked + 1) standing.sent
+    since_start link.mss link.start_us (standing.acked + 1) standing.sent
+    (arrival_ack_of link.mss arrival.sent_at arrival.at arrival.marked standing.past arrival.lost
+    (flight_count (drop 1 standing.flight.arrivals) standing.flight.lost) (standing.acked + 1) standing.sent)
 
 abbrev pub with_arrival : FlowLink → Arrival → AnsweredFlow → AnsweredFlow
 with_arrival link arrival answered = record {
@@ -138,7 +139,8 @@ with_arrival link arrival answered = record {
 -- the timeout at this time, if all packets in flight are lost
 abbrev pub timeout_ack_to : FlowLink → ℕ → FlowStanding → Ack
 timeout_ack_to link now standing =
-    timeout_ack_of link.mss now standing.past standing.flight.lost 0 standing.acked standing.sent
+    since_start link.mss link.start_us standing.acked standing.sent
+    (timeout_ack_of link.mss now standing.past standing.flight.lost 0 standing.acked standing.sent)
 
 abbrev pub with_timeout : FlowLink → ℕ → AnsweredFlow → AnsweredFlow
 with_timeout link now answered = record {
@@ -202,19 +204,19 @@ pub record AreReady (case : SharedCase) (rounds : ℕ) (flows : List FlowTraffic
 
 -- the most acknowledgements that a flow with this traffic can get in a round: one for each packet that is in flight or
 -- that it may have in flight, and no more than it has left
-abbrev pub most_answers : SharedCase → List Ask → ℕ → FlowTraffic → ℕ
-most_answers case asks flow traffic = min (ask_at asks flow).left (max traffic.in_flight (allowed case asks flow))
+abbrev pub most_answers : List Ask → ℕ → FlowTraffic → ℕ
+most_answers asks flow traffic = min (ask_at asks flow).left (max traffic.in_flight traffic.allowance)
 
--- a flow with this traffic has begun a round: it keeps how many packets it may have in flight, and there is room for
--- its acknowledgements
-pub record IsPrepared (case : SharedCase) (asks : List Ask) (flow : ℕ) (traffic : FlowTraffic) : Type 0 where
-  pub allowance : traffic.allowance ≡ allowed case asks flow
-  pub room : most_answers case asks flow traffic ≤ vec_capacity traffic.acks
+-- a flow with this traffic has begun the round at the time `now`: it keeps how many packets it may have in flight, and
+-- there is room for its acknowledgements
+pub record IsPrepared (case : SharedCase) (now : ℕ) (asks : List Ask) (flow : ℕ) (traffic : FlowTraffic) : Type 0 where
+  pub allowance : traffic.allowance ≡ allowed case now asks flow
+  pub room : most_answers asks flow traffic ≤ vec_capacity traffic.acks
 
 -- each of the first `first` flows has begun the round
-abbrev pub ArePrepared : SharedCase → List Ask → ℕ → List FlowTraffic → Type 0
-ArePrepared case asks first flows =
-    (flow : ℕ) (other : FlowTraffic) → flow < first → IsPrepared case asks flow (get_or flows flow other)
+abbrev pub ArePrepared : SharedCase → ℕ → List Ask → ℕ → List FlowTraffic → Type 0
+ArePrepared case now asks first flows =
+    (flow : ℕ) (other : FlowTraffic) → flow < first → IsPrepared case now asks flow (get_or flows flow other)
 
 -- some turns of a round's sending were made: from the packets sent so far, `left` more turns lead to the same packets
 -- as all turns do from `sent`
@@ -222,8 +224,8 @@ pub record TurnsMade (case : SharedCase) (asks : List Ask) (flows : List FlowTra
     (sent : List Sent) (givens : ℕ → List GivenAck) : Type 0 where
   pub so_far : List Sent
   pub follows : Follows case flows sending so_far givens
-  pub rest : turns_of case sending.now (allowed case asks) givens left so_far
-      ≡ turns_of case sending.now (allowed case asks) givens most_flight sent
+  pub rest : turns_of case sending.now (allowed case sending.now asks) givens left so_far
+      ≡ turns_of case sending.now (allowed case sending.now asks) givens most_flight sent
 
 -- the acknowledgements of a flow before a time
 abbrev pub acks_before : SharedCase → List Ask → ℕ → List Sent → (ℕ → List GivenAck) → ℕ → List GivenAck

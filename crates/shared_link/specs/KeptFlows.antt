@@ -1,5 +1,5 @@
 -- What is kept of all flows, step by step: who sends next, what is sent in a round, and what is acknowledged.
-use Rattle.std.specs.Prelude.{vec_capacity, ◌≡◌, ◌≢◌, ℕ, ◌≤◌, Bool, if◌then◌else◌, List, [], length, get_or}
+use Rattle.std.specs.Prelude.{vec_capacity, ◌≡◌, ◌≢◌, ℕ, ◌<◌, ◌≤◌, Bool, if◌then◌else◌, List, [], length, get_or}
 use Rattle.ccp_base.specs.declared.ack.Ack.{Ack}
 use Rattle.ccp_base.specs.Limits.{most_flight}
 use Rattle.link_model.specs.Link.{GivenAck}
@@ -15,17 +15,17 @@ use Rattle.shared_link.specs.Kept.{flow_under_way, answered_all, IsFlowReady, mo
 
 -- ---- who sends next
 
--- the answer says whether the flow has fewer packets in flight than it may have, whatever was sent
-abbrev pub TellsLack : SharedCase → List Ask → Flows → ℕ → Bool → Type 0
-TellsLack case asks flows flow answer =
+-- the answer says whether the flow has fewer packets in flight than it may have at the time `now`, whatever was sent
+abbrev pub TellsLack : SharedCase → ℕ → List Ask → Flows → ℕ → Bool → Type 0
+TellsLack case now asks flows flow answer =
     (sent : List Sent) (givens : ℕ → List GivenAck) → FlowsFollow case flows.traffic.items sent givens
-    → answer ≡ lacks (allowed case asks) givens flow sent
+    → answer ≡ lacks (allowed case now asks) givens flow sent
 
--- the answer says whether some flow has fewer packets in flight than it may have, whatever was sent
-abbrev pub TellsSomeLack : SharedCase → List Ask → Flows → Bool → Type 0
-TellsSomeLack case asks flows answer =
+-- the answer says whether some flow has fewer packets in flight than it may have at the time `now`, whatever was sent
+abbrev pub TellsSomeLack : SharedCase → ℕ → List Ask → Flows → Bool → Type 0
+TellsSomeLack case now asks flows answer =
     (sent : List Sent) (givens : ℕ → List GivenAck) → FlowsFollow case flows.traffic.items sent givens
-    → answer ≡ some_lacks (allowed case asks) givens (length case.flows) sent
+    → answer ≡ some_lacks (allowed case now asks) givens (length case.flows) sent
 
 -- the counts are those of what was sent and acknowledged in `rounds` rounds, whatever that was
 abbrev pub TellsCounts : SharedCase → ℕ → Flows → Counts → Type 0
@@ -47,18 +47,20 @@ SendsOn case old from new to more =
 abbrev pub SendsOne : SharedCase → List Ask → ℕ → Flows → Sending → Flows → Sending → Type 0
 SendsOne case asks flow old from new to =
     SendsOn case old from new to
-    (λ givens sent. if lacks (allowed case asks) givens flow sent then with_packet case from.now flow sent else sent)
+    (λ givens sent.
+    if lacks (allowed case from.now asks) givens flow sent then with_packet case from.now flow sent else sent)
 
 -- all flows take a turn
 abbrev pub SendsTurn : SharedCase → List Ask → Flows → Sending → Flows → Sending → Type 0
 SendsTurn case asks old from new to =
     SendsOn case old from new to
-    (λ givens sent. sending_turn case from.now (allowed case asks) givens (length case.flows) sent)
+    (λ givens sent. sending_turn case from.now (allowed case from.now asks) givens (length case.flows) sent)
 
 -- all flows take all turns of a round
 abbrev pub SendsAll : SharedCase → List Ask → Flows → Sending → Flows → Sending → Type 0
 SendsAll case asks old from new to =
-    SendsOn case old from new to (λ givens sent. turns_of case from.now (allowed case asks) givens most_flight sent)
+    SendsOn case old from new to
+    (λ givens sent. turns_of case from.now (allowed case from.now asks) givens most_flight sent)
 
 -- ---- what is acknowledged
 
@@ -68,10 +70,14 @@ IsReadyAt case rounds flows flow =
     (other : FlowTraffic) → IsFlowReady (flow_link_at case flow) rounds (get_or flows.traffic.items flow other)
 
 -- there is room for the flow's acknowledgements of a round
-abbrev pub HasRoomAt : SharedCase → List Ask → Flows → ℕ → Type 0
-HasRoomAt case asks flows flow =
-    (other : FlowTraffic) → most_answers case asks flow (get_or flows.traffic.items flow other)
+abbrev pub HasRoomAt : List Ask → Flows → ℕ → Type 0
+HasRoomAt asks flows flow =
+    (other : FlowTraffic) → most_answers asks flow (get_or flows.traffic.items flow other)
     ≤ vec_capacity (get_or flows.traffic.items flow other).acks
+
+-- there is room for each flow's
+abbrev pub HaveRoom : List Ask → Flows → Type 0
+HaveRoom asks flows = (flow : ℕ) → flow < length flows.traffic.items → HasRoomAt asks flows flow
 
 -- all flows but this one are as they were
 abbrev pub AreOthersKept : ℕ → Flows → Flows → Type 0

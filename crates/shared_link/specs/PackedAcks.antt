@@ -4,14 +4,16 @@ use Rattle.ccp_base.specs.declared.ack.Ack.{Ack}
 use Rattle.ccp_base.specs.Limits.{most_segment_bytes, most_flight}
 use Rattle.link_model.specs.Link.{no_past, arrival_ack_of, timeout_ack_of}
 use Rattle.link_model.specs.Counts.{most_packets}
+use Rattle.shared_link.specs.SharedRounds.{since_start}
 use Rattle.shared_link.specs.declared.packed_ack.PackedAck.TheInside.{Inside}
 
 -- the acknowledgement that a packed one stands for
 abbrev pub unpacked : Inside → Ack
 unpacked p =
-    if p.was_timeout
+    since_start p.mss p.start_us p.acked p.sent
+    (if p.was_timeout
     then timeout_ack_of p.mss p.now (record { rtt_sample_us = p.rtt_sample_us }) p.lost 0 p.acked p.sent
-    else arrival_ack_of p.mss (p.now - p.rtt_sample_us) p.now p.marked no_past p.lost p.stay p.acked p.sent
+    else arrival_ack_of p.mss (p.now - p.rtt_sample_us) p.now p.marked no_past p.lost p.stay p.acked p.sent)
 
 -- its numbers are those of a link
 pub record IsPacked (p : Inside) : Type 0 where

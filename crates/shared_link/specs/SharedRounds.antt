@@ -1,9 +1,9 @@
 -- The link that several flows share: what becomes of the packets and acknowledgements of its rounds.
-use Rattle.std.specs.Prelude.{ℕ, zero, suc, ◌+◌, ◌*◌, max, Bool, true, false, ◌||◌, ◌&&◌, ◌==◌, nat_lt, None, unwrap_or, if◌then◌else◌, List, [], ◌∷◌, ◌++◌, length, slice_get}
+use Rattle.std.specs.Prelude.{ℕ, zero, suc, ◌+◌, ◌-◌, ◌*◌, max, Bool, true, false, ◌||◌, ◌&&◌, ◌==◌, nat_lt, None, unwrap_or, if◌then◌else◌, List, [], ◌∷◌, ◌++◌, length, slice_get}
 use Rattle.ccp_base.specs.declared.ack.Ack.{Ack}
 use Rattle.ccp_base.specs.Limits.{most_flight}
 use Rattle.link_model.specs.Chances.{chance_time, first_chance}
-use Rattle.link_model.specs.Link.{Packet, Fate, Lost, Served, GivenAck, packet_and_lost_below, all_below, Numbered, Next, arrives, all_lost, allowance_of, waiting, chances_past, fate_of, is_lost, left_by, lost_by, in_flight, time_of, past_of, acked_of, arrival_ack_of, timeout_ack_of}
+use Rattle.link_model.specs.Link.{Packet, Fate, Lost, Served, GivenAck, packet_and_lost_below, all_below, Numbered, Next, arrives, all_lost, allowance_of, waiting, chances_past, fate_of, is_lost, left_by, lost_by, in_flight, time_of, past_of, acked_of, byte_rate, arrival_ack_of, timeout_ack_of}
 use Rattle.link_model.specs.Counts.{lost_of}
 use Rattle.shared_link.specs.declared.shared_case.FlowLink.{FlowLink}
 use Rattle.shared_link.specs.declared.shared_case.SharedCase.{SharedCase}
@@ -23,7 +23,7 @@ pub record SharedLinkRun : Type 0 where
   pub rounds : ℕ
 
 abbrev pub no_flow : FlowLink
-no_flow = record { mss = 1; delay_us = 0; timeout_us = 1; losses = []; mark = None }
+no_flow = record { mss = 1; delay_us = 0; timeout_us = 1; losses = []; mark = None; start_us = 0 }
 
 abbrev pub flow_link_at : SharedCase → ℕ → FlowLink
 flow_link_at case flow = unwrap_or (slice_get case.flows flow) no_flow
@@ -51,10 +51,11 @@ own_flight flow sent givens = in_flight (own_packets flow sent) givens
 
 -- ---- sending
 
--- how many packets a flow may have in flight: none if it has no acknowledgement left
-abbrev pub allowed : SharedCase → List Ask → ℕ → ℕ
-allowed case asks flow =
-    if (ask_at asks flow).left == 0 then 0 else allowance_of (flow_link_at case flow).mss (ask_at asks flow).window
+-- how many packets a flow may have in flight at the time `now`: none if it has no acknowledgement left or starts later
+abbrev pub allowed : SharedCase → ℕ → List Ask → ℕ → ℕ
+allowed case now asks flow =
+    if (ask_at asks flow).left == 0 || nat_lt now (flow_link_at case flow).start_us then 0
+    else allowance_of (flow_link_at case flow).mss (ask_at asks flow).window
 
 -- the packet that a flow sends at the time `now` after these. It is lost if its number in its flow is listed, or if as
 -- many packets of all flows wait as the queue holds. Otherwise it gets the first chance that isn't before now and is
@@ -102,7 +103,9 @@ round_time case rounds = rounds * case.quantum_us
 -- the packets after the sending of one more round: the 4,096 turns are always enough, since afterwards no flow has
 -- fewer packets in flight than it may have, by the law `SharedCase::sending_law`
 abbrev pub sent_by : SharedCase → List Ask → SharedLinkRun → List Sent
-sent_by case asks run = turns_of case (round_time case run.rounds) (allowed case asks) run.givens most_flight run.sent
+sent_by case asks run =
+    turns_of case (round_time case run.rounds) (allowed case (round_time case run.rounds) asks) run.givens most_flight
+    run.sent
 
 -- ---- acknowledgements
 
@@ -122,14 +125,22 @@ next_before times delay end [] = all_lost
 next_before times delay end (sent ∷ rest) =
     next_where times delay end sent.number sent.packet.sent_at sent.packet.fate (next_before times delay end rest)
 
+-- an acknowledgement with its two rates over the time since the start of its flow, of whose packets, `mss` bytes each,
+-- `acked` were acknowledged so far and `sent` were sent
+abbrev pub since_start : ℕ → ℕ → ℕ → ℕ → Ack → Ack
+since_start mss start acked sent ack = record ack {
+  rate_incoming = byte_rate mss acked (ack.now - start);
+  rate_outgoing = byte_rate mss sent (ack.now - start);
+}
+
 -- the acknowledgement of a packet of a flow
 abbrev pub arrival_given : List ℕ → FlowLink → List Packet → List GivenAck → List Numbered → ℕ → ℕ → ℕ → Bool → GivenAck
 arrival_given times link packets givens flight number sent_at chance marked = record {
   taking = packet_and_lost_below number;
-  ack = arrival_ack_of link.mss sent_at (chance_time times chance + link.delay_us) marked (past_of givens)
+  ack = since_start link.mss link.start_us (acked_of givens + 1) (length packets)
+      (arrival_ack_of link.mss sent_at (chance_time times chance + link.delay_us) marked (past_of givens)
       (lost_by (packet_and_lost_below number) flight) (length (left_by (packet_and_lost_below number) flight))
-      (acked_of givens + 1)
-      (length packets);
+      (acked_of givens + 1) (length packets));
 }
 
 abbrev pub are_lost : List Numbered → Bool
@@ -140,8 +151,9 @@ are_lost (sent ∷ rest) = is_lost sent.packet.fate && are_lost rest
 abbrev pub timeout_given : FlowLink → List Packet → List GivenAck → List Numbered → ℕ → GivenAck
 timeout_given link packets givens flight now = record {
   taking = all_below (length packets);
-  ack = timeout_ack_of link.mss now (past_of givens) (length flight)
-      (length (left_by (all_below (length packets)) flight)) (acked_of givens) (length packets);
+  ack = since_start link.mss link.start_us (acked_of givens) (length packets)
+      (timeout_ack_of link.mss now (past_of givens) (length flight)
+      (length (left_by (all_below (length packets)) flight)) (acked_of givens) (length packets));
 }
 
 -- when a flow times out: `timeout_us` after its last acknowledgement or after the sending of its lowest packet in

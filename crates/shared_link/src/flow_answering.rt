@@ -148,7 +148,7 @@ impl FlowTraffic {
         self.past = Past {
             rtt_sample_us: arrival.at - arrival.sent_at,
         };
-        let ack = PackedAck::of_arrival(link.mss, arrival, self.in_flight, self.acked, self.sent);
+        let ack = PackedAck::of_arrival(link, arrival, self.in_flight, self.acked, self.sent);
         self.acks.push_reserved(ack);
     }
 
@@ -179,7 +179,7 @@ impl FlowTraffic {
         self.in_flight = 0;
         self.gone += lost;
         // a timeout has no sample of its own, so what is past stays
-        let ack = PackedAck::of_timeout(link.mss, now, self.past, lost, self.acked, self.sent);
+        let ack = PackedAck::of_timeout(link, now, self.past, lost, self.acked, self.sent);
         self.acks.push_reserved(ack);
     }
 }

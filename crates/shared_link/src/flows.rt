@@ -6,7 +6,7 @@ ghost use Rattle.shared_link.specs.SharedLimits.{IsWithin};
 ghost use Rattle.shared_link.specs.SharedRounds.{flow_link_at, ask_at, allowed};
 ghost use Rattle.shared_link.specs.Kept.{flow_under_way, IsSending, FlowsFollow, AreReady, ArePrepared};
 ghost use Rattle.shared_link.specs.KeptFlows.{TellsLack, TellsSomeLack, TellsCounts, SendsOne, SendsTurn, SendsAll};
-ghost use Rattle.shared_link.specs.KeptFlows.{IsReadyAt, HasRoomAt, AreOthersKept, AnswersAt, AnswersAll};
+ghost use Rattle.shared_link.specs.KeptFlows.{IsReadyAt, HasRoomAt, HaveRoom, AreOthersKept, AnswersAt, AnswersAll};
 
 use crate::flow_sending::PACKETS;
 use crate::flow_traffic::FlowTraffic;
@@ -34,19 +34,20 @@ pub(crate) fn ask_of(asks: &[Ask], flow: usize) -> Ask
     asks[flow]
 }
 
-/// How many packets a flow may have in flight.
-fn allowance_of(case: &SharedCase, asks: &[Ask], flow: usize) -> u64
+/// How many packets a flow may have in flight in the round at `now`, in microseconds.
+fn allowance_of(case: &SharedCase, now: u64, asks: &[Ask], flow: usize) -> u64
     requires case { IsWithin case.now }
     requires flow { flow < length case.now.flows }
     requires asks { length asks.now ≡ length case.now.flows }
-    ensures value { result ≡ allowed case.now asks.now flow }
+    ensures value { result ≡ allowed case.now now asks.now flow }
     ensures within { result ≤ most_flight }
 {
     let ask = ask_of(asks, flow);
-    if ask.left == 0 {
+    let link = link_of(case, flow);
+    if ask.left == 0 || now < link.start_us {
         return 0;
     }
-    allowance(link_of(case, flow).mss, ask.window)
+    allowance(link.mss, ask.window)
 }
 
 /// What is under way of all flows, in order.
@@ -59,12 +60,13 @@ impl Flows {
     /// Whether a flow has fewer packets in flight than it may have.
     fn lacks(&self, case: &SharedCase, asks: &[Ask], sending: &Sending, flow: usize) -> bool
         requires ready { AreReady case.now sending.now.rounds self.now.traffic.items }
-        requires prepared { ArePrepared case.now asks.now (length self.now.traffic.items) self.now.traffic.items }
+        requires prepared { ArePrepared case.now sending.now.now asks.now (length self.now.traffic.items)
+            self.now.traffic.items }
         requires flow { flow < length self.now.traffic.items }
         ensures below { IsTrue result → (other : FlowTraffic)
             → (get_or self.now.traffic.items flow other).in_flight
             < (get_or self.now.traffic.items flow other).allowance }
-        ensures lacks { TellsLack case.now asks.now self.now flow result }
+        ensures lacks { TellsLack case.now sending.entry.now.now asks.now self.now flow result }
     {
         // for the contract alone: what holds of the flows depends on the case, what they ask for and the rounds so far
         let _ = case;
@@ -84,18 +86,20 @@ impl Flows {
     ) -> bool
         requires case { IsWithin case.now }
         requires ready { AreReady case.now sending.old.rounds self.old.traffic.items }
-        requires prepared { ArePrepared case.now asks.now (length self.old.traffic.items) self.old.traffic.items }
+        requires prepared { ArePrepared case.now sending.old.now asks.now (length self.old.traffic.items)
+            self.old.traffic.items }
         requires asks { length asks.now ≡ length case.now.flows }
         requires flow { flow < length self.old.traffic.items }
         requires sending { IsSending case.now.trace sending.old }
         ensures ready { AreReady case.now sending.new.rounds self.new.traffic.items }
-        ensures prepared { ArePrepared case.now asks.now (length self.new.traffic.items) self.new.traffic.items }
+        ensures prepared { ArePrepared case.now sending.new.now asks.now (length self.new.traffic.items)
+            self.new.traffic.items }
         ensures sending { IsSending case.now.trace sending.new }
         ensures rounds { sending.new.rounds ≡ sending.old.rounds }
         ensures now { sending.new.now ≡ sending.old.now }
         ensures follows { SendsOne case.now asks.now flow self.old sending.old self.new sending.new }
         ensures unchanged { IsFalse result → self.new ≡ self.old }
-        ensures lacks { IsFalse result → TellsLack case.now asks.now self.new flow false }
+        ensures lacks { IsFalse result → TellsLack case.now sending.old.now asks.now self.new flow false }
     {
         if !self.lacks(case, asks, sending, flow) {
             return false;
@@ -109,16 +113,18 @@ impl Flows {
     fn send_turn(&mut self, case: &SharedCase, asks: &[Ask], sending: &mut Sending) -> bool
         requires case { IsWithin case.now }
         requires ready { AreReady case.now sending.old.rounds self.old.traffic.items }
-        requires prepared { ArePrepared case.now asks.now (length self.old.traffic.items) self.old.traffic.items }
+        requires prepared { ArePrepared case.now sending.old.now asks.now (length self.old.traffic.items)
+            self.old.traffic.items }
         requires asks { length asks.now ≡ length case.now.flows }
         requires sending { IsSending case.now.trace sending.old }
         ensures ready { AreReady case.now sending.new.rounds self.new.traffic.items }
-        ensures prepared { ArePrepared case.now asks.now (length self.new.traffic.items) self.new.traffic.items }
+        ensures prepared { ArePrepared case.now sending.new.now asks.now (length self.new.traffic.items)
+            self.new.traffic.items }
         ensures sending { IsSending case.now.trace sending.new }
         ensures rounds { sending.new.rounds ≡ sending.old.rounds }
         ensures now { sending.new.now ≡ sending.old.now }
         ensures follows { SendsTurn case.now asks.now self.old sending.old self.new sending.new }
-        ensures over { IsFalse result → TellsSomeLack case.now asks.now self.new false }
+        ensures over { IsFalse result → TellsSomeLack case.now sending.old.now asks.now self.new false }
     {
         let mut has_sent = false;
         let mut flow = 0;
@@ -133,11 +139,13 @@ impl Flows {
     pub(crate) fn send_all(&mut self, case: &SharedCase, asks: &[Ask], sending: &mut Sending)
         requires case { IsWithin case.now }
         requires ready { AreReady case.now sending.old.rounds self.old.traffic.items }
-        requires prepared { ArePrepared case.now asks.now (length self.old.traffic.items) self.old.traffic.items }
+        requires prepared { ArePrepared case.now sending.old.now asks.now (length self.old.traffic.items)
+            self.old.traffic.items }
         requires asks { length asks.now ≡ length case.now.flows }
         requires sending { IsSending case.now.trace sending.old }
         ensures ready { AreReady case.now sending.new.rounds self.new.traffic.items }
-        ensures prepared { ArePrepared case.now asks.now (length self.new.traffic.items) self.new.traffic.items }
+        ensures prepared { ArePrepared case.now sending.new.now asks.now (length self.new.traffic.items)
+            self.new.traffic.items }
         ensures sending { IsSending case.now.trace sending.new }
         ensures rounds { sending.new.rounds ≡ sending.old.rounds }
         ensures now { sending.new.now ≡ sending.old.now }
@@ -166,28 +174,29 @@ impl Flows {
         Ok(Flows { traffic })
     }
 
-    /// Begins a round: sets how many packets each flow may have in flight, and reserves memory for them and for the
-    /// most acknowledgements that it can get.
+    /// Begins the round at `now`, in microseconds: sets how many packets each flow may have in flight, and reserves
+    /// memory for them and for the most acknowledgements that it can get.
     pub(crate) fn make_rooms(
         &mut self,
         alloc: Global,
         case: &SharedCase,
         asks: &[Ask],
         rounds: u32,
+        now: u64,
     ) -> Result<(), NoMemory>
         requires case { IsWithin case.now }
         requires ready { AreReady case.now rounds self.old.traffic.items }
         requires asks { length asks.now ≡ length case.now.flows }
         ensures ready { AreReady case.now rounds self.new.traffic.items }
         ensures prepared { OnOk result
-            (ArePrepared case.now asks.now (length self.new.traffic.items) self.new.traffic.items) }
+            (ArePrepared case.now now asks.now (length self.new.traffic.items) self.new.traffic.items) }
         ensures same { map flow_under_way self.new.traffic.items ≡ map flow_under_way self.old.traffic.items }
     {
         // for the contract alone: what holds of the flows depends on the rounds so far
         let _ = rounds;
         let mut flow = 0;
         while flow < self.traffic.len() {
-            let allowance = allowance_of(case, asks, flow);
+            let allowance = allowance_of(case, now, asks, flow);
             let left = ask_of(asks, flow).left;
             self.traffic[flow].make_room(alloc, link_of(case, flow), allowance, left)?;
             flow += 1;
@@ -229,7 +238,7 @@ impl Flows {
         requires end { end ≤ most_rounds * most_quantum_us }
         requires rounds { rounds < most_rounds }
         requires ready { IsReadyAt case.now rounds self.old flow }
-        requires room { HasRoomAt case.now asks.now self.old flow }
+        requires room { HasRoomAt asks.now self.old flow }
         ensures ready { IsReadyAt case.now (rounds + 1) self.new flow }
         ensures count { length self.new.traffic.items ≡ length self.old.traffic.items }
         ensures others { AreOthersKept flow self.old self.new }
@@ -258,7 +267,7 @@ impl Flows {
         requires case { IsWithin case.now }
         requires asks { length asks.now ≡ length case.now.flows }
         requires ready { AreReady case.now rounds self.old.traffic.items }
-        requires prepared { ArePrepared case.now asks.now (length self.old.traffic.items) self.old.traffic.items }
+        requires room { HaveRoom asks.now self.old }
         requires end { end ≤ most_rounds * most_quantum_us }
         requires rounds { rounds < most_rounds }
         requires none { answers.old.items ≡ [] }

@@ -16,6 +16,8 @@ pub struct FlowLink {
     /// How many packets of all flows must wait at least for the flow's next one to be marked. If `None`, none is
     /// marked.
     pub mark: Option<u32>,
+    /// When it starts, in microseconds of the link's time: before it the flow sends nothing.
+    pub start_us: u64,
 }
 
 /// What flows have on a shared link, in order.

@@ -82,8 +82,9 @@ impl SharedLink {
         ensures unchanged { OnErr result (self.new ≡ self.old) }
     {
         let mut answers = Vec::with_capacity(alloc, asks.len())?;
-        self.flows.make_rooms(alloc, &self.case, asks, self.rounds)?;
         let now = u64::from(self.rounds) * self.case.quantum_us;
+        self.flows
+            .make_rooms(alloc, &self.case, asks, self.rounds, now)?;
         let mut sending = Sending::at(&self.case.trace, self.rounds, now, self.next, self.near);
         self.flows.send_all(&self.case, asks, &mut sending);
         let end = now + self.case.quantum_us;

@@ -121,7 +121,7 @@ module _ (case : SharedCase) (now : ℕ) (may : ℕ → ℕ) (givens : ℕ → L
 module _ (case : SharedCase) (within : IsWithin case) where
   sent-few : (asks : List Ask) (run : SharedLinkRun) → length (sent_by case asks run) ≤ length run.sent + 262144
   sent-few asks run =
-      let turns = turns-few case (round_time case run.rounds) (allowed case asks) run.givens within.few 4096 run.sent in
+      let turns = turns-few case (round_time case run.rounds) (allowed case (round_time case run.rounds) asks) run.givens within.few 4096 run.sent in
       omega (arith, turns)
 
   run-few : (rounds : List (List Ask)) (run : SharedLinkRun) → length (shared_run_from case run rounds).sent ≤ length run.sent + length rounds * 262144

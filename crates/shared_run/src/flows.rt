@@ -130,7 +130,17 @@ pub(crate) fn do_part<C: Course, F: RoundFlow, R: Wait>(
     flows: &[LockedRunFlow<C, F>],
     acks: &RoundAcks<C>,
 ) -> Option<KnownFlow<C>> {
-    let mut flow = flows.get(acks.number as usize)?.lock(rt);
+    let flow = flows.get(acks.number as usize)?;
+    hear_part(alloc, &mut flow.lock(rt), acks)
+}
+
+// A function of its own: its exits have no lock to give back.
+/// The part of a flow that is locked, if the flow is through the rounds before.
+fn hear_part<C: Course, F: RoundFlow>(
+    alloc: Global,
+    flow: &mut RunFlow<C, F>,
+    acks: &RoundAcks<C>,
+) -> Option<KnownFlow<C>> {
     if !flow.is_at(acks.number, acks.since) {
         return None;
     }

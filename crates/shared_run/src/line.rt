@@ -7,10 +7,9 @@ use std::hint::spin_loop;
 use std::sync::Wait;
 use std::thread::Parker;
 
-/// How often a thread looks for a message before it sleeps. Looks take half a millisecond in all on processors with a
-/// long pause. To wake a thread takes some 100 microseconds, and a thread that looks much longer takes processors from
-/// those that it waits for, if the machine is busy.
-const LOOKS: u32 = 10_000;
+/// How often a thread looks for a message before it sleeps, which takes some microseconds in all. A thread that looks
+/// much longer takes processors from those that it waits for, if the machine is busy.
+const LOOKS: u32 = 100;
 
 /// How many messages a line has room for. Only one is on its way at a time. With room for more a sender seldom reads
 /// how far the receiver is, and each such read fetches a cache line from the receiver's processor.

@@ -92,6 +92,15 @@ impl<C: Course> Order<C> {
         self.last.is_none()
     }
 
+    /// How many acknowledgements its parts have in all.
+    pub(crate) fn acks(&self) -> usize {
+        let mut acks = acks_of(&self.last);
+        for part in self.earlier.as_slice() {
+            acks = acks.saturating_add(part.acks.acks.len());
+        }
+        acks
+    }
+
     /// Does the parts. Each then has what is known of its flow.
     pub(crate) fn do_parts<F: RoundFlow, R: Wait, G: Gate>(
         &mut self,
@@ -110,6 +119,14 @@ impl<C: Course> Order<C> {
     /// The parts before the last one, and the last one.
     pub(crate) fn into_parts(self) -> (Vec<Part<C>>, Option<Part<C>>) {
         (self.earlier, self.last)
+    }
+}
+
+/// How many acknowledgements a part has, none if there is no part.
+fn acks_of<C: Course>(part: &Option<Part<C>>) -> usize {
+    match part {
+        Some(part) => part.acks.acks.len(),
+        None => 0,
     }
 }
 

@@ -2,10 +2,12 @@
 ghost use Rattle.std.specs.Prelude.{◌≡◌, ◌≤◌, length, map, IfOk};
 ghost use Rattle.ccp_base.specs.Limits.{most_flows, most_rounds};
 ghost use Rattle.flow_core.specs.Readings.{over_codes};
-ghost use Rattle.scene_core.specs.CasePlans.{plan_of, AreFlowsFrom, flow_link_of};
+ghost use Rattle.scene_core.specs.CasePlans.{plan_of, AreFlowsFrom, flow_link_of, link_at_once};
 ghost use Rattle.shared_link.specs.SharedLimits.{IsWithin};
+ghost use Rattle.shared_link.specs.SharedRounds.{counts_of};
+ghost use Rattle.shared_run.specs.RoundLetters.{closed_flow};
 ghost use Rattle.shared_run.specs.SharedHistory.{flows_at_end, round_limit, shared_rows, shared_counts};
-ghost use Rattle.shared_run.specs.Courses.{EndsInTime};
+ghost use Rattle.shared_run.specs.Courses.{run_after, flows_after, StandsAfter, EndsInTime};
 ghost use Rattle.shared_run.specs.RoundFlows.{kept_at};
 ghost use Rattle.shared_run.specs.WholeRun.{IsRunOf};
 ghost use Rattle.shared_run.specs.LiftedRun.{RunHoldsForSources};
@@ -16,7 +18,8 @@ use crate::flow::SharedFlow;
 use crate::flows::{close_flows, open_flows};
 use crate::line::Bell;
 use crate::round_flow::RoundFlow;
-use crate::rounds::run_by_workers;
+use crate::rounds::{RunEnd, run_by_workers};
+use crate::run_flow::LockedRunFlow;
 use campaign_core::Cases;
 use ccp_base::{Gate, NoMemory, Workers};
 use flow_core::{Bare, Case, Core};
@@ -46,7 +49,7 @@ pub fn shared<R: Threads + Wait + Sync, G: Gate + Sync>(
     requires few { length scene.scene.cases ≤ most_flows }
     requires flows { AreFlowsFrom 0 scene.scene.cases }
     requires link { IsWithin scene.link }
-    requires links { scene.link.flows ≡ map flow_link_of (map plan_of scene.scene.cases) }
+    requires links { map link_at_once scene.link.flows ≡ map flow_link_of (map plan_of scene.scene.cases) }
     requires rounds { scene.rounds ≤ most_rounds }
     ensures run { IfOk result (IsRunOf scene.link scene.scene.cases scene.rounds) }
     // It ends after the first round in which all flows have all acknowledgements, or else after the last one.
@@ -76,7 +79,7 @@ pub fn shared_rows<R: Threads + Wait + Sync, G: Gate + Sync>(
     requires few { length scene.scene.cases ≤ most_flows }
     requires flows { AreFlowsFrom 0 scene.scene.cases }
     requires link { IsWithin scene.link }
-    requires links { scene.link.flows ≡ map flow_link_of (map plan_of scene.scene.cases) }
+    requires links { map link_at_once scene.link.flows ≡ map flow_link_of (map plan_of scene.scene.cases) }
     requires rounds { scene.rounds ≤ most_rounds }
     ensures rows { IfOk result (λ run. run.rows ≡ shared_rows scene.link over_codes scene.scene.cases scene.rounds) }
     ensures counts { IfOk result (λ run. run.counts
@@ -111,7 +114,7 @@ fn run<F: RoundFlow + Send, R: Threads + Wait + Sync, G: Gate + Sync>(
 ) -> Result<ClosedRun<F>, NoMemory>
     requires few { length scene.scene.cases ≤ most_flows }
     requires link { IsWithin scene.link }
-    requires links { scene.link.flows ≡ map flow_link_of (map plan_of scene.scene.cases) }
+    requires links { map link_at_once scene.link.flows ≡ map flow_link_of (map plan_of scene.scene.cases) }
     requires rounds { scene.rounds ≤ most_rounds }
     ensures flows { IfOk result (λ run. map (λ shared. (shared.flow, shared.tally)) run.flows.items
         ≡ map (kept_at F.at) (flows_at_end scene.link over_codes scene.scene.cases scene.rounds)) }
@@ -124,6 +127,15 @@ fn run<F: RoundFlow + Send, R: Threads + Wait + Sync, G: Gate + Sync>(
         rounds: most,
     } = scene;
     run_course::<Brand, F, R, G>(rt, alloc, link, scene.cases, most, workers, gate)
+}
+
+/// A run before its first round.
+#[derive(Drop)]
+struct OpenRun<C: Course, F: RoundFlow> {
+    link: SharedLink,
+    flows: Vec<LockedRunFlow<C, F>>,
+    /// A bell for each worker.
+    bells: Vec<Bell>,
 }
 
 /// The run of these cases over their link for at most `most` rounds. Its parts have types that name it.
@@ -145,16 +157,14 @@ fn run_course<
     requires cases { cases ≡ C.cases }
     requires few { length C.cases ≤ most_flows }
     requires within { IsWithin C.link }
-    requires links { C.link.flows ≡ map flow_link_of (map plan_of C.cases) }
+    requires links { map link_at_once C.link.flows ≡ map flow_link_of (map plan_of C.cases) }
     requires rounds { most ≤ most_rounds }
     ensures flows { IfOk result (λ run. map (λ shared. (shared.flow, shared.tally)) run.flows.items
         ≡ map (kept_at F.at) (flows_at_end C.link over_codes C.cases most)) }
     ensures counts { IfOk result (λ run. run.counts ≡ shared_counts C.link over_codes C.cases most) }
 {
     let most = most_of(cases.as_slice(), most);
-    let link = SharedLink::new(alloc, link)?;
-    let flows = open_flows::<C, F>(alloc, cases)?;
-    let bells = make_bells(alloc, workers)?;
+    let OpenRun { link, flows, bells } = open_run::<C, F>(alloc, link, cases, workers)?;
     let end = run_by_workers(
         rt,
         alloc,
@@ -164,6 +174,45 @@ fn run_course<
         bells.as_slice(),
         gate,
     )?;
+    close_run(alloc, end, flows)
+}
+
+// A function of its own: each of its exits drops little, and its caller has one exit for all of them.
+/// The run before its first round.
+fn open_run<C: Course, F: RoundFlow>(
+    alloc: Global,
+    link: SharedCase,
+    cases: Cases,
+    workers: Workers,
+) -> Result<OpenRun<C, F>, NoMemory>
+    requires link { link ≡ C.link }
+    requires cases { cases ≡ C.cases }
+    requires few { length C.cases ≤ most_flows }
+    requires within { IsWithin C.link }
+    ensures stands { IfOk result (λ run. StandsAfter C.link C.cases 0 run.link) }
+    ensures flows { IfOk result (λ run. length run.flows.items ≡ length C.cases) }
+    ensures bells { IfOk result (λ run. length run.bells.items ≡ workers.count) }
+{
+    let link = SharedLink::new(alloc, link)?;
+    let flows = open_flows::<C, F>(alloc, cases)?;
+    let bells = make_bells(alloc, workers)?;
+    Ok(OpenRun { link, flows, bells })
+}
+
+/// The run at its end, whose flows take and answer until nothing is left.
+fn close_run<C: Course, F: RoundFlow>(
+    alloc: Global,
+    end: RunEnd,
+    flows: Vec<LockedRunFlow<C, F>>,
+) -> Result<ClosedRun<F>, NoMemory>
+    requires stands { StandsAfter C.link C.cases end.rounds end.link }
+    requires flows { length flows.items ≡ length C.cases }
+    requires few { length C.cases ≤ most_flows }
+    ensures flows { IfOk result (λ run. map (λ shared. (shared.flow, shared.tally)) run.flows.items
+        ≡ map (kept_at F.at) (map (closed_flow over_codes) (flows_after C.link C.cases end.rounds))) }
+    ensures counts { IfOk result (λ run. run.counts
+        ≡ counts_of C.link (run_after C.link over_codes C.cases end.rounds).history) }
+{
     let counts = end.link.counts();
     let flows = close_flows(alloc, flows, end.rounds)?;
     Ok(ClosedRun { flows, counts })

@@ -110,9 +110,60 @@ impl<'e, C: Course> WorkerHandle<'e, C> {
     }
 }
 
-/// Does all orders of a round, and leaves none. The caller does the first one that has a part, beside the threads that
-/// do the others: a thread is woken only if two workers have parts.
+/// In a round with fewer acknowledgements than this the caller does all parts: a thread that sleeps takes longer to wake
+/// than they take.
+const FEW_ACKS: usize = 2048;
+
+/// Does all orders of a round, and leaves none. In a round with few acknowledgements the caller does all of them. Else
+/// it does the first one that has a part, beside the threads that do the others: a thread is woken only if two workers
+/// have parts.
 pub(crate) fn do_orders<'e, C: Course, F: RoundFlow, R: Wait, G: Gate>(
+    rt: &R,
+    alloc: Global,
+    flows: &[LockedRunFlow<C, F>],
+    desk: &mut Desk<C>,
+    orders: &mut Vec<Order<C>>,
+    handles: &mut [WorkerHandle<'e, C>],
+    gate: &G,
+)
+    ensures link { desk.new.link ≡ desk.old.link }
+    ensures known { length desk.new.known.items ≡ length desk.old.known.items }
+{
+    if acks_in(orders.as_slice()) < FEW_ACKS {
+        do_all_here(rt, alloc, flows, desk, orders, gate);
+    } else {
+        do_by_threads(rt, alloc, flows, desk, orders, handles, gate);
+    }
+}
+
+/// How many acknowledgements the parts of orders have in all.
+fn acks_in<C: Course>(orders: &[Order<C>]) -> usize {
+    let mut acks: usize = 0;
+    for order in orders {
+        acks = acks.saturating_add(order.acks());
+    }
+    acks
+}
+
+/// Does all orders here, the last one first, and leaves none.
+fn do_all_here<C: Course, F: RoundFlow, R: Wait, G: Gate>(
+    rt: &R,
+    alloc: Global,
+    flows: &[LockedRunFlow<C, F>],
+    desk: &mut Desk<C>,
+    orders: &mut Vec<Order<C>>,
+    gate: &G,
+)
+    ensures link { desk.new.link ≡ desk.old.link }
+    ensures known { length desk.new.known.items ≡ length desk.old.known.items }
+{
+    while let Some(order) = orders.pop() {
+        do_here(rt, alloc, flows, desk, order, gate);
+    }
+}
+
+/// Does the first order that has a part here, and the others on their workers' threads, and leaves none.
+fn do_by_threads<'e, C: Course, F: RoundFlow, R: Wait, G: Gate>(
     rt: &R,
     alloc: Global,
     flows: &[LockedRunFlow<C, F>],

@@ -3,7 +3,7 @@ ghost use Rattle.std.specs.Prelude.{◌≡◌, ◌≤◌, ◌++◌, [], IfOk, le
 ghost use Rattle.std.specs.List.{All};
 ghost use Rattle.ccp_base.specs.Limits.{most_cases, most_flows, most_rounds};
 ghost use Rattle.campaign_report.specs.TableText.{table_text};
-ghost use Rattle.scene_core.specs.CasePlans.{plan_of, AreFlowsFrom, flow_link_of};
+ghost use Rattle.scene_core.specs.CasePlans.{plan_of, AreFlowsFrom, flow_link_of, link_at_once};
 ghost use Rattle.scenario_json.specs.Cases.{case_names, IsCoded, AreNumberedFrom};
 ghost use Rattle.shared_link.specs.SharedLimits.{IsWithin};
 ghost use Rattle.ccp_run.specs.Attempts.{IsOutputOrRefusal, IsAttempt};
@@ -68,7 +68,7 @@ fn run_together<R: Threads + Wait + Sync, G: Gate + Sync>(
     requires coded { All (IsCoded scene.scene.programs) scene.scene.cases }
     requires flows { AreFlowsFrom 0 scene.scene.cases }
     requires link { IsWithin scene.link }
-    requires links { scene.link.flows ≡ map flow_link_of (map plan_of scene.scene.cases) }
+    requires links { map link_at_once scene.link.flows ≡ map flow_link_of (map plan_of scene.scene.cases) }
     requires rounds { scene.rounds ≤ most_rounds }
     ensures text { IfOk result (λ output. output.text ≡ text_of_scene scene) }
     ensures books { IfOk result (λ output. output.books ≡ []) }

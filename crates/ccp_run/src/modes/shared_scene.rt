@@ -1,7 +1,7 @@
 //! What the modes over one link share: the scenario that they read, and the line of the link's packets.
 ghost use Rattle.std.specs.Prelude.{◌≡◌, ◌≤◌, ◌++◌, OnOk, IfOk, IfErr, length, map};
 ghost use Rattle.ccp_base.specs.Limits.{most_flows, most_rounds};
-ghost use Rattle.scene_core.specs.CasePlans.{plan_of, flow_link_of};
+ghost use Rattle.scene_core.specs.CasePlans.{plan_of, flow_link_of, link_at_once};
 ghost use Rattle.scenario_json.specs.Cases.{case_names, AreNumberedFrom};
 ghost use Rattle.shared_link.specs.SharedLimits.{IsWithin};
 ghost use Rattle.ccp_run.specs.Shared.{IsSharedScenario, StopsShared, link_line};
@@ -22,7 +22,7 @@ pub fn read_shared_scene(alloc: Global, bytes: &[u8]) -> Result<SharedScene, Sto
     ensures names { IfOk result (λ s. s.scene.names ≡ case_names s.scene.cases) }
     ensures few { IfOk result (λ s. length s.scene.cases ≤ most_flows) }
     ensures link { IfOk result (λ s. IsWithin s.link) }
-    ensures links { IfOk result (λ s. s.link.flows ≡ map flow_link_of (map plan_of s.scene.cases)) }
+    ensures links { IfOk result (λ s. map link_at_once s.link.flows ≡ map flow_link_of (map plan_of s.scene.cases)) }
     ensures rounds { IfOk result (λ s. s.rounds ≤ most_rounds) }
     ensures err { IfErr result (StopsShared bytes.now) }
 {

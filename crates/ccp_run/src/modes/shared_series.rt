@@ -9,7 +9,7 @@ ghost use Rattle.flow_core.specs.Cores.{CoreState};
 ghost use Rattle.flow_core.specs.declared.book.Given.{Given};
 ghost use Rattle.flow_core.specs.LiveText.{flow_from};
 ghost use Rattle.reg_compiler.specs.Sources.{sources_of};
-ghost use Rattle.scene_core.specs.CasePlans.{plan_of, AreFlowsFrom, flow_link_of};
+ghost use Rattle.scene_core.specs.CasePlans.{plan_of, AreFlowsFrom, flow_link_of, link_at_once};
 ghost use Rattle.scenario_json.specs.Cases.{case_names, IsCoded, AreNumberedFrom};
 ghost use Rattle.shared_link.specs.SharedLimits.{IsWithin};
 ghost use Rattle.shared_run.specs.LiftedRun.{RunHoldsForSources};
@@ -85,7 +85,7 @@ fn run_timeline<R: Threads + Wait + Sync, G: Gate + Sync>(
     requires coded { All (IsCoded scene.scene.programs) scene.scene.cases }
     requires flows { AreFlowsFrom 0 scene.scene.cases }
     requires link { IsWithin scene.link }
-    requires links { scene.link.flows ≡ map flow_link_of (map plan_of scene.scene.cases) }
+    requires links { map link_at_once scene.link.flows ≡ map flow_link_of (map plan_of scene.scene.cases) }
     requires rounds { scene.rounds ≤ most_rounds }
     ensures text { IfOk result (λ output. output.text
         ≡ shared_timeline_text wire scene.scene.programs scene.scene.cases scene.link scene.rounds) }
@@ -142,7 +142,7 @@ fn run_acks<R: Threads + Wait + Sync, G: Gate + Sync>(
     requires coded { All (IsCoded scene.scene.programs) scene.scene.cases }
     requires flows { AreFlowsFrom 0 scene.scene.cases }
     requires link { IsWithin scene.link }
-    requires links { scene.link.flows ≡ map flow_link_of (map plan_of scene.scene.cases) }
+    requires links { map link_at_once scene.link.flows ≡ map flow_link_of (map plan_of scene.scene.cases) }
     requires rounds { scene.rounds ≤ most_rounds }
     ensures text { IfOk result (λ output. output.text
         ≡ shared_acks_text scene.scene.programs scene.scene.cases scene.link scene.rounds) }
@@ -185,7 +185,7 @@ fn run_series<R: Threads + Wait + Sync, G: Gate + Sync>(
     requires coded { All (IsCoded scene.scene.programs) scene.scene.cases }
     requires flows { AreFlowsFrom 0 scene.scene.cases }
     requires link { IsWithin scene.link }
-    requires links { scene.link.flows ≡ map flow_link_of (map plan_of scene.scene.cases) }
+    requires links { map link_at_once scene.link.flows ≡ map flow_link_of (map plan_of scene.scene.cases) }
     requires rounds { scene.rounds ≤ most_rounds }
     ensures names { IfOk result (λ series. series.names ≡ scene.scene.names) }
     ensures programs { IfOk result (λ series. series.programs ≡ scene.scene.programs) }
@@ -230,7 +230,7 @@ fn run_cases<R: Threads + Wait + Sync, G: Gate + Sync>(
     requires few { length cases ≤ most_flows }
     requires flows { AreFlowsFrom 0 cases }
     requires link { IsWithin link }
-    requires links { link.flows ≡ map flow_link_of (map plan_of cases) }
+    requires links { map link_at_once link.flows ≡ map flow_link_of (map plan_of cases) }
     requires rounds { rounds ≤ most_rounds }
     ensures run { IfOk result (IsRunOf link cases rounds) }
     ensures lifted { RunHoldsForSources link cases rounds }

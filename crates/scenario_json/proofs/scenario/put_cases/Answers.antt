@@ -6,7 +6,7 @@ use Rattle.std.specs.Vec.Iter.{into_iter_items}
 use Rattle.flow_core.specs.declared.case.Case.{Case}
 use Rattle.scene_members.specs.declared.plan.Plan.{Plan}
 use Rattle.scene_members.specs.Plans.{IsPlan}
-use Rattle.scene_core.specs.CasePlans.{plan_of}
+use Rattle.scene_core.specs.CasePlans.{plan_of, at_once}
 use Rattle.scenario_json.specs.Cases.{IsCoded}
 use Rattle.scenario_json.proofs.SceneLemmas.{ArePut, put_step}
 use Rattle.scenario_json.proofs.scenario.put_cases.Goals as goal
@@ -25,7 +25,7 @@ loop-plan-preserved c =
     let cases : c.push-in-loop-plan.new.self ≡ done = search rules in
     let names : c.push.new.self ≡ named = search rules in
     let flow : one.flow ≡ length l.cases = search rules in
-    let said : plan_of one ≡ plan = c.in_ok-case.ensures.plan in
+    let said : plan_of one ≡ at_once plan = c.in_ok-case.ensures.plan in
     let coded : IsCoded programs one = search rules in
     let put = put_step programs c.args.plans l.cases left rest plan one l.names is l.invariant.0 flow said coded in
     let within : All (IsPlan (length programs)) (plan ∷ rest) = subst (λ (plans : List Plan). All (IsPlan (length programs)) plans) is l.invariant.1 in

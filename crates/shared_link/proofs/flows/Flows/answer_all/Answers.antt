@@ -10,13 +10,12 @@ use Rattle.shared_link.proofs.flows.Flows.answer_all.Goals as goal
 
 pub answer_one-acks-requires-clause-room : goal.answer_one-acks-requires-clause-room
 answer_one-acks-requires-clause-room c = λ other.
-    let case = c.args.case.now in
     let f = c.loop-flow.flow in
     let asks = c.args.asks.now in
     let inv = c.loop-flow.invariant in
     let within : f < length c.loop-flow.self.traffic.items = omega (arith, c.loop-flow-test.true, c.len.ensures) in
-    subst (λ (t : FlowTraffic). most_answers case asks f t ≤ vec_capacity t.acks) (sym (inv.5 f other (omega arith) within))
-    (c.requires.prepared f other (omega (arith, within, inv.1))).room
+    subst (λ (t : FlowTraffic). most_answers asks f t ≤ vec_capacity t.acks) (sym (inv.5 f other (omega arith) within))
+    (c.requires.room f (omega (arith, within, inv.1)) other)
 
 pub loop-flow-preserved : goal.loop-flow-preserved
 loop-flow-preserved c =

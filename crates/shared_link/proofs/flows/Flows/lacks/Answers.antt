@@ -27,5 +27,5 @@ returns-clause-lacks c = λ sent givens follows.
     ready.kept.count
     ∙ ap (λ s. flight_count s.flight.arrivals s.flight.lost) standing
     ∙ kept-count case.trace (flow_link_at case f) (own_packets f sent) (givens f) in
-    let prepared = subst (λ (x : FlowTraffic). IsPrepared case c.args.asks.now f x) (sym c.index-traffic.ensures) (c.requires.prepared f t c.requires.flow) in
+    let prepared = subst (λ (x : FlowTraffic). IsPrepared case c.args.sending.now.now c.args.asks.now f x) (sym c.index-traffic.ensures) (c.requires.prepared f t c.requires.flow) in
     ap (λ n. ltb n t.allowance) count ∙ ap (ltb (length (own_flight f sent (givens f)))) prepared.allowance

@@ -4,7 +4,7 @@ use Rattle.std.proofs.lemmas.List.{length-set}
 use Rattle.shared_link.specs.declared.flow_traffic.FlowTraffic.{FlowTraffic}
 use Rattle.shared_link.specs.declared.shared_case.FlowLink.{FlowLink}
 use Rattle.shared_link.specs.declared.round.Ask.{Ask}
-use Rattle.shared_link.specs.SharedRounds.{flow_link_at, ask_at, allowed}
+use Rattle.shared_link.specs.SharedRounds.{flow_link_at, ask_at}
 use Rattle.shared_link.specs.Kept.{flow_under_way, IsFlowKept, IsFlowReady}
 use Rattle.shared_link.proofs.FlowsLemmas.{ready-set, prepared-set}
 use Rattle.shared_link.proofs.flows.Flows.make_rooms.Goals as goal
@@ -28,7 +28,7 @@ loop-flow-preserved c =
     let ready = subst (λ (x : FlowTraffic). IsFlowReady (flow_link_at case f) rounds x) (sym c.index_mut.ensures.value) (c.loop-flow.invariant.1.each f old (omega (arith, within))) in
     let room : min c.ask_of-left.result.left (max new.in_flight c.allowance_of-allowance.result) ≤ vec_capacity new.acks = c.in_ok-make_room.ensures.room in
     let asked : min (ask_at asks f).left (max new.in_flight c.allowance_of-allowance.result) ≤ vec_capacity new.acks = subst (λ (a : Ask). min a.left (max new.in_flight c.allowance_of-allowance.result) ≤ vec_capacity new.acks) c.ask_of-left.ensures room in
-    let here : min (ask_at asks f).left (max new.in_flight (allowed case asks f)) ≤ vec_capacity new.acks = subst (λ (m : ℕ). min (ask_at asks f).left (max new.in_flight m) ≤ vec_capacity new.acks) c.allowance_of-allowance.ensures.value asked in (
+    let here : min (ask_at asks f).left (max new.in_flight new.allowance) ≤ vec_capacity new.acks = subst (λ (m : ℕ). min (ask_at asks f).left (max new.in_flight m) ≤ vec_capacity new.acks) (sym c.in_ok-make_room.ensures.allowance) asked in (
       omega (arith, within, length-set flows f new),
       ready-set case rounds flows f new (omega (arith, within)) c.loop-flow.invariant.1
           (record {
@@ -36,7 +36,7 @@ loop-flow-preserved c =
             sent = omega (arith, ready.sent, c.make_room.ensures.sent, c.make_room.ensures.in_flight);
             acks = c.make_room.ensures.acks;
           }),
-      prepared-set case asks f (f + 1) flows f new (omega (arith, within)) within c.loop-flow.invariant.2 (λ flow under apart. omega (arith, under, apart))
+      prepared-set case c.args.now asks f (f + 1) flows f new (omega (arith, within)) within c.loop-flow.invariant.2 (λ flow under apart. omega (arith, under, apart))
           (record { allowance = c.in_ok-make_room.ensures.allowance ∙ c.allowance_of-allowance.ensures.value; room = here }),
       map-set_same flow_under_way flows f new old (c.make_room.ensures.standing ∙ ap flow_under_way c.index_mut.ensures.value) ∙ c.loop-flow.invariant.3,
     )

@@ -6,7 +6,7 @@ abbrev pub invariant-loop-flow : goal.invariant-loop-flow
 invariant-loop-flow l =
     (l.flow ≤ length l.self.traffic.items)
     × AreReady l.case l.rounds l.self.traffic.items
-    × ArePrepared l.case l.asks l.flow l.self.traffic.items
+    × ArePrepared l.case l.now l.asks l.flow l.self.traffic.items
     × (map flow_under_way l.self.traffic.items ≡ map flow_under_way l.fn.self.traffic.items)
 
 abbrev pub decreases-loop-flow : goal.decreases-loop-flow

@@ -7,7 +7,7 @@ use Rattle.shared_link.proofs.flows.Flows.send_all.Given as goal
 abbrev pub invariant-loop-left : goal.invariant-loop-left
 invariant-loop-left l =
     AreReady l.case l.sending.rounds l.self.traffic.items
-    × ArePrepared l.case l.asks (length l.self.traffic.items) l.self.traffic.items
+    × ArePrepared l.case l.sending.now l.asks (length l.self.traffic.items) l.self.traffic.items
     × IsSending l.case.trace l.sending
     × (l.sending.rounds ≡ l.fn.sending.rounds)
     × (l.sending.now ≡ l.fn.sending.now)

@@ -4,8 +4,8 @@ use Rattle.shared_link.specs.declared.flow_traffic.FlowTraffic.{FlowTraffic}
 use Rattle.shared_link.specs.declared.shared_case.FlowLink.{FlowLink}
 use Rattle.link_model.specs.Link.{chance_past}
 use Rattle.link_model.specs.Chances.{chance_number}
-use Rattle.shared_link.specs.SharedRounds.{flow_link_at, ask_at, allowed, with_packet}
-use Rattle.shared_link.specs.Kept.{flow_under_way, with_one, fate_now, IsFlowKept, IsFlowReady, AreReady, IsPrepared, Follows}
+use Rattle.shared_link.specs.SharedRounds.{flow_link_at, ask_at, with_packet}
+use Rattle.shared_link.specs.Kept.{flow_under_way, with_one, fate_now, IsFlowKept, IsFlowReady, AreReady, IsPrepared, ArePrepared, Follows}
 use Rattle.shared_link.proofs.FlowsLemmas.{ready-set, prepared-set, follows-sent}
 use Rattle.shared_link.proofs.flows.Flows.send_one.Goals as goal
 
@@ -72,13 +72,14 @@ returns-clause-prepared c =
     let new = c.send.new.self in
     let asks = c.args.asks.now in
     let count = length-set flows f new in
-    let may = allowed case asks f in
     let below : old.in_flight < old.allowance = subst (λ (x : FlowTraffic). x.in_flight < x.allowance) (sym c.index_mut.ensures.value) (c.lacks.ensures.below (search rules) old) in
-    let kept = subst (λ (x : FlowTraffic). IsPrepared case asks f x) (sym c.index_mut.ensures.value) (c.requires.prepared f old c.requires.flow) in
-    let room : min (ask_at asks f).left (max old.in_flight may) ≤ vec_capacity old.acks = kept.room in
-    let here : min (ask_at asks f).left (max new.in_flight may) ≤ vec_capacity new.acks = omega (arith, room, below, kept.allowance, c.send.ensures.in_flight, ap vec_capacity c.send.ensures.acks) in
-    prepared-set case asks (length flows) (length (set flows f new)) flows f new c.requires.flow (omega (arith, count)) c.requires.prepared (λ flow under apart. omega (arith, under, count))
-    (record { allowance = c.send.ensures.allowance ∙ kept.allowance; room = here })
+    let now = c.args.sending.now.now in
+    let kept = subst (λ (x : FlowTraffic). IsPrepared case now asks f x) (sym c.index_mut.ensures.value) (c.requires.prepared f old c.requires.flow) in
+    let room : min (ask_at asks f).left (max old.in_flight old.allowance) ≤ vec_capacity old.acks = kept.room in
+    let here : min (ask_at asks f).left (max new.in_flight new.allowance) ≤ vec_capacity new.acks = omega (arith, room, below, c.send.ensures.allowance, c.send.ensures.in_flight, ap vec_capacity c.send.ensures.acks) in
+    subst (λ n. ArePrepared case n asks (length (set flows f new)) (set flows f new)) (sym c.send.ensures.now)
+    (prepared-set case now asks (length flows) (length (set flows f new)) flows f new c.requires.flow (omega (arith, count)) c.requires.prepared (λ flow under apart. omega (arith, under, count))
+    (record { allowance = c.send.ensures.allowance ∙ kept.allowance; room = here }))
 
 pub returns-clause-follows : goal.returns-clause-follows
 returns-clause-follows c = λ sent givens follows.

@@ -12,7 +12,8 @@ loop-flow-preserved c =
     let case = c.args.case.now in
     let flow = c.loop-flow.flow in
     let now = c.args.sending.now.now in
-    let may = allowed case c.args.asks.now in
+    let asks = c.args.asks.now in
+    let may = allowed case now asks in
     let after = c.send_one.new in
     let one : suc flow ≡ flow + 1 = omega arith in (
       omega (arith, c.loop-flow-test.true, c.len.ensures, c.loop-flow.invariant.1.count, c.send_one.ensures.ready.count),
@@ -25,7 +26,7 @@ loop-flow-preserved c =
           (let so_far = sending_turn case now may givens flow sent in
           let sent_now = c.send_one.ensures.follows so_far givens (c.loop-flow.invariant.6 sent givens follows) in
           subst (λ k. Follows case after.self.traffic.items after.sending (sending_turn case now may givens k sent) givens) one
-          (subst (λ n. Follows case after.self.traffic.items after.sending (cond (lacks may givens flow so_far) (with_packet case n flow so_far) so_far) givens) c.loop-flow.invariant.5 sent_now)),
+          (subst (λ n. Follows case after.self.traffic.items after.sending (cond (lacks (allowed case n asks) givens flow so_far) (with_packet case n flow so_far) so_far) givens) c.loop-flow.invariant.5 sent_now)),
       λ none sent givens follows.
           elim c.if-send_one.branch [
             | then-send_one w ↦ absurd (let wrong : true ≡ false = sym w.if-send_one.true ∙ sym w.has_sent-is ∙ none in (cc))
@@ -35,7 +36,7 @@ loop-flow-preserved c =
                 let before = c.loop-flow.invariant.7 (sym w.has_sent-is ∙ none) sent givens
                 (subst (λ (flows : Flows). FlowsFollow case flows.traffic.items sent givens) same follows) in
                 ap (λ k. some_lacks may givens k sent) (sym one)
-                ∙ or_false (lacks may givens flow sent) (some_lacks may givens flow sent) (sym (c.send_one.ensures.lacks is sent givens follows)) before)
+                ∙ or_false (lacks may givens flow sent) (some_lacks may givens flow sent) (ap (λ n. lacks (allowed case n asks) givens flow sent) (sym c.loop-flow.invariant.5) ∙ sym (c.send_one.ensures.lacks is sent givens follows)) before)
           ],
     )
 
@@ -43,5 +44,5 @@ pub returns-clause-follows : goal.returns-clause-follows
 returns-clause-follows c = λ sent givens follows.
     let case = c.args.case.now in
     let all : c.loop-flow.flow ≡ length case.flows = omega (arith, c.loop-flow-test.false, c.len.ensures, c.loop-flow.invariant.0, c.loop-flow.invariant.1.count) in
-    subst (λ k. Follows case c.loop-flow.self.traffic.items c.loop-flow.sending (sending_turn case c.args.sending.now.now (allowed case c.args.asks.now) givens k sent) givens) all
+    subst (λ k. Follows case c.loop-flow.self.traffic.items c.loop-flow.sending (sending_turn case c.args.sending.now.now (allowed case c.args.sending.now.now c.args.asks.now) givens k sent) givens) all
     (c.loop-flow.invariant.6 sent givens follows)

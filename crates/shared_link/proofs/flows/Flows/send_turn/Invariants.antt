@@ -8,14 +8,14 @@ abbrev pub invariant-loop-flow : goal.invariant-loop-flow
 invariant-loop-flow l =
     (l.flow ≤ length l.self.traffic.items)
     × AreReady l.case l.sending.rounds l.self.traffic.items
-    × ArePrepared l.case l.asks (length l.self.traffic.items) l.self.traffic.items
+    × ArePrepared l.case l.sending.now l.asks (length l.self.traffic.items) l.self.traffic.items
     × IsSending l.case.trace l.sending
     × (l.sending.rounds ≡ l.fn.sending.rounds)
     × (l.sending.now ≡ l.fn.sending.now)
     × ((sent : List Sent) (givens : ℕ → List GivenAck) → Follows l.case l.fn.self.traffic.items l.fn.sending sent givens
-    → Follows l.case l.self.traffic.items l.sending (sending_turn l.case l.fn.sending.now (allowed l.case l.asks) givens l.flow sent) givens)
+    → Follows l.case l.self.traffic.items l.sending (sending_turn l.case l.fn.sending.now (allowed l.case l.fn.sending.now l.asks) givens l.flow sent) givens)
     × (l.has_sent ≡ false → (sent : List Sent) (givens : ℕ → List GivenAck) → FlowsFollow l.case l.self.traffic.items sent givens
-    → some_lacks (allowed l.case l.asks) givens l.flow sent ≡ false)
+    → some_lacks (allowed l.case l.fn.sending.now l.asks) givens l.flow sent ≡ false)
 
 abbrev pub decreases-loop-flow : goal.decreases-loop-flow
 decreases-loop-flow l = length l.self.traffic.items - l.flow

@@ -3,7 +3,7 @@ use Rattle.ccp_base.specs.Limits.{most_rounds}
 use Rattle.link_model.specs.Chances.{chance_number}
 use Rattle.shared_link.specs.SharedRounds.{acks_after}
 use Rattle.shared_link.specs.SharedStanding.{FlowStanding, SharedState, Stands}
-use Rattle.shared_link.specs.Kept.{AreReady}
+use Rattle.shared_link.specs.Kept.{AreReady, ArePrepared}
 use Rattle.shared_link.proofs.LinkLemmas.{acks_same, stands_after}
 use Rattle.shared_link.proofs.shared_link.SharedLink.round.Goals as goal
 
@@ -43,6 +43,14 @@ send_all-requires-clause-ready c =
 
 pub send_all-requires-clause-asks : goal.send_all-requires-clause-asks
 send_all-requires-clause-asks c = c.requires.asks ∙ ap (λ (l : SharedState). length l.case.flows) (sym c.self.view_is)
+
+pub send_all-requires-clause-prepared : goal.send_all-requires-clause-prepared
+send_all-requires-clause-prepared c =
+    let flows = c.make_rooms.new.self.traffic.items in
+    subst (λ (n : ℕ). ArePrepared c.self.inside.case n c.args.asks.now (length flows) flows) (sym c.at-sending.ensures.now) c.in_ok-make_rooms.ensures.prepared
+
+pub answer_all-requires-clause-room : goal.answer_all-requires-clause-room
+answer_all-requires-clause-room c = λ flow inside other. (c.send_all.ensures.prepared flow other inside).room
 
 pub answer_all-requires-clause-asks : goal.answer_all-requires-clause-asks
 answer_all-requires-clause-asks c = c.requires.asks ∙ ap (λ (l : SharedState). length l.case.flows) (sym c.self.view_is)
