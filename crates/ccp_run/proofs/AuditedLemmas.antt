@@ -1,5 +1,5 @@
 -- `audit` of a scenario and its timeline says yes.
-use Rattle.std.proofs.Common.{◌≡◌, ◌∙◌, ℕ, true, false, Result, Ok, Some, List, [], ◌∷◌, map, codes, ap, sym, subst, refl}
+use Rattle.std.proofs.Common.{◌≡◌, ◌∙◌, ℕ, false, Result, Ok, Some, List, map, ap, sym, subst}
 use Rattle.std.specs.List.{All}
 use Rattle.std.proofs.lemmas.List.Elements.{All-map}
 use Rattle.reg_compiler.specs.declared.built.Built.{Built}
@@ -7,18 +7,15 @@ use Rattle.flow_core.specs.declared.book.Book.{Book}
 use Rattle.flow_core.specs.declared.case.Case.{Case}
 use Rattle.flow_core.specs.declared.letter.Letter.{Letter}
 use Rattle.reg_compiler.specs.Sources.{Sources, sources_of}
-use Rattle.flow_core.specs.LiveText.{live_text}
-use Rattle.fold_run.specs.Separated.{Cut, cut_of}
+use Rattle.fold_run.specs.Separated.{Cut}
 use Rattle.campaign_report.specs.BooksRead.{flows_of}
 use Rattle.scene_members.specs.declared.mode.SceneMode.TheVariants as scene
-use Rattle.scene_members.specs.declared.plan.Plan.{Plan}
 use Rattle.scene_core.specs.CasePlans.{plan_of}
 use Rattle.scenario_json.specs.Scene.{Scene, scene_with, scene_of}
-use Rattle.run_audit.specs.declared.verdict.Verdict.TheVariants.{Yes}
 use Rattle.run_audit.specs.Audit.{IsWordOf, IsLiveText}
 use Rattle.run_audit.proofs.WordsLemmas.{yes_only}
 use Rattle.ccp_run.specs.declared.outcome.ModeOutput.{ModeOutput}
-use Rattle.ccp_run.specs.AuditRuns.{IsAuditOutput, verdict_text}
+use Rattle.ccp_run.specs.AuditRuns.{verdict_text}
 use Rattle.ccp_run.specs.Live.{IsRightBook}
 use Rattle.ccp_run.specs.Scenes.{Says, IsScenario}
 use Rattle.ccp_run.specs.TextLaws.{AuditsTimelines}

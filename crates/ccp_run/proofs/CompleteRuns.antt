@@ -1,5 +1,5 @@
 -- A run on an input of its mode isn't refused, and one on any other bytes is.
-use Rattle.std.proofs.Common.{◌≡◌, ◌≤◌, ◌<◌, ◌∙◌, inl, inr, ℕ, zero, suc, Bool, true, false, List, [], ◌++◌, length, Some, None, arith, ap, sym, subst, refl, append-nil, length-append}
+use Rattle.std.proofs.Common.{◌≡◌, ◌≤◌, ◌<◌, ◌∙◌, inl, inr, ℕ, Bool, true, false, List, [], ◌++◌, length, Some, None, arith, ap, sym, subst, refl, append-nil, length-append}
 use Rattle.ccp_base.specs.Outside.{Known, Rose, Takes, IsAtEnd, TakesOver}
 use Rattle.ccp_run.specs.declared.outcome.ModeOutput.{ModeOutput}
 use Rattle.ccp_run.specs.declared.outcome.Outcome.{Outcome}

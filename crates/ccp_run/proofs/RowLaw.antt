@@ -1,5 +1,5 @@
 -- The row of a flow and its account show the same history, in a timeline and over a shared link.
-use Rattle.std.proofs.Common.{◌≡◌, ◌∙◌, ℕ, ◌+◌, List, [], ◌∷◌, ◌++◌, length, map, refl, sym}
+use Rattle.std.proofs.Common.{◌∙◌, ℕ, List, [], ◌∷◌, ◌++◌, map, refl, sym}
 use Rattle.std.proofs.lemmas.List.{length-append, length-map}
 use Rattle.ccp_base.specs.declared.place.Place.{Place}
 use Rattle.reg_compiler.specs.Sources.{Sources, sources_of}

@@ -1,7 +1,6 @@
 -- The books of a campaign are those of its cases' campaign words, read over the sources of the programs.
 use Rattle.std.proofs.Common.{◌≡◌, ◌∙◌, ℕ, suc, List, [], ◌∷◌, map, get_or, ap, sym, subst, refl, arith}
 use Rattle.std.specs.List.{All}
-use Rattle.ccp_base.specs.declared.ack.Ack.{Ack}
 use Rattle.reg_compiler.specs.declared.built.Built.{Built}
 use Rattle.flow_core.specs.declared.book.Book.{Book}
 use Rattle.flow_core.specs.declared.case.Case.{Case}

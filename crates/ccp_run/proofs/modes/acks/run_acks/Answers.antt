@@ -1,8 +1,7 @@
-use Rattle.std.proofs.Common.{◌≡◌, ◌∙◌, ◌≤◌, ℕ, List, map, length, rules, ap, sym, subst, arith}
+use Rattle.std.proofs.Common.{◌≡◌, ◌∙◌, ℕ, List, length, rules, ap, sym, arith}
 use Rattle.std.proofs.lemmas.List.{length-map}
 use Rattle.ccp_base.specs.declared.ack.Ack.{Ack}
 use Rattle.agent_core.specs.declared.agent.Agent.{Agent}
-use Rattle.ccp_base.specs.Limits.{most_cases}
 use Rattle.campaign_gate.specs.CampaignBooks.{acks_of_case}
 use Rattle.campaign_report.specs.AcksText.{acks_text}
 use Rattle.scenario_json.specs.Cases.{case_names}

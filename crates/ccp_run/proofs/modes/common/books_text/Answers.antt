@@ -1,11 +1,7 @@
-use Rattle.std.proofs.Common.{◌≡◌, ◌∙◌, ◌++◌, List, rules, ap, sym, subst}
-use Rattle.std.specs.List.{All}
+use Rattle.std.proofs.Common.{◌≡◌, ◌∙◌, ◌++◌, List, rules, ap}
 use Rattle.flow_core.specs.declared.book.Book.{Book}
-use Rattle.flow_core.specs.LiveText.{live_text}
 use Rattle.campaign_report.specs.BookText.{books_text}
-use Rattle.campaign_report.specs.BooksRead.{IsBookRead, flows_of}
 use Rattle.campaign_report.proofs.BookLemmas.{books-live}
-use Rattle.reg_compiler.specs.Sources.{sources_of}
 use Rattle.ccp_run.specs.Campaign.{frames_shown}
 use Rattle.ccp_run.proofs.LiveLemmas.{books_read}
 use Rattle.ccp_run.proofs.modes.common.books_text.Goals as goal

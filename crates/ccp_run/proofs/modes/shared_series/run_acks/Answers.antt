@@ -1,7 +1,5 @@
-use Rattle.std.proofs.Common.{◌≡◌, ◌∙◌, ◌++◌, ◌≤◌, List, length, map, rules, ap, sym, arith}
+use Rattle.std.proofs.Common.{◌≡◌, ◌∙◌, ◌++◌, length, map, rules, ap, sym, arith}
 use Rattle.std.proofs.lemmas.List.{length-map}
-use Rattle.ccp_base.specs.Limits.{most_cases}
-use Rattle.ccp_base.specs.declared.ack.Ack.{Ack}
 use Rattle.reg_compiler.specs.Sources.{sources_of}
 use Rattle.flow_core.specs.Cores.{CoreState}
 use Rattle.flow_core.specs.LiveText.{flow_from}

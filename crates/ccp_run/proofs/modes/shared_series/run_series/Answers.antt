@@ -1,4 +1,4 @@
-use Rattle.std.proofs.Common.{◌≡◌, ◌∙◌, List, ℕ, map, ap, sym, subst}
+use Rattle.std.proofs.Common.{◌∙◌, List, map, ap, sym, subst}
 use Rattle.std.specs.List.{All}
 use Rattle.flow_core.specs.declared.book.Book.{Book}
 use Rattle.flow_core.specs.declared.case.Case.{Case}
@@ -27,7 +27,7 @@ returns-clause-books g c =
     let one : HaveOneRun (flow_from (sources_of programs)) scene.link cases scene.rounds =
     c.in_ok-run.ensures.lifted (flow_from (sources_of programs)) (all_simulated programs c.requires.numbered cases c.requires.coded) in
     ap (λ (books : List Book). books_text programs books) c.in_ok-histories.ensures.books
-    ∙ parts_printed programs c.requires.numbered cores c.in_ok-run.run.givens c.in_ok-run.ensures.run.givens coded
+    ∙ parts_printed programs c.requires.numbered cores c.in_ok-run.run'.givens c.in_ok-run.ensures.run.givens coded
     ∙ ap (λ (flows : List CoreState). core_parts (sources_of programs) flows) one.flows
 
 pub returns-clause-acks : goal.returns-clause-acks
@@ -39,7 +39,7 @@ returns-clause-acks g c =
     let one : HaveOneRun (flow_from (sources_of programs)) scene.link cases scene.rounds =
     c.in_ok-run.ensures.lifted (flow_from (sources_of programs)) (all_simulated programs c.requires.numbered cases c.requires.coded) in
     c.in_ok-histories.ensures.acks
-    ∙ acks_given cores c.in_ok-run.run.givens c.in_ok-run.ensures.run.givens
+    ∙ acks_given cores c.in_ok-run.run'.givens c.in_ok-run.ensures.run.givens
     ∙ ap (λ (flows : List CoreState). map (λ (core : CoreState). core.acks) flows) one.flows
 
 pub returns-clause-counts : goal.returns-clause-counts
