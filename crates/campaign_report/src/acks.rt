@@ -4,6 +4,7 @@ ghost use Rattle.ccp_base.specs.Limits.{most_cases, primitive_count};
 ghost use Rattle.campaign_report.specs.AcksText.{ack_line, ack_lines, acks_text, flow_text, flows_text, gap, is_shown};
 ghost use Rattle.campaign_report.specs.AcksText.{item_text, items_text};
 
+use crate::number::put_number;
 use crate::table::Agents;
 use agent_core::Agent;
 use campaign_core::CaseAcks;
@@ -80,36 +81,31 @@ fn put_flow_text(
     ensures { OnOk result (text.new ≡ text.old ++ flow_text flow name.now agent.now acks.now) }
 {
     put_flow_line(alloc, text, flow, name, agent)?;
-    put_acks(alloc, text, acks.as_slice())
+    put_acks(text, acks.as_slice())
 }
 
 /// Appends the lines of acknowledgements.
-fn put_acks(alloc: Global, text: &mut Bytes, acks: &[Ack]) -> Result<(), NoMemory>
+fn put_acks(text: &mut Bytes, acks: &[Ack]) -> Result<(), NoMemory>
     ensures { OnOk result (text.new ≡ text.old ++ ack_lines acks.now) }
 {
     let mut left = acks;
     while let Some((ack, rest)) = left.split_first() {
-        put_ack(alloc, text, ack)?;
+        put_ack(text, ack)?;
         left = rest;
     }
     Ok(())
 }
 
-fn put_ack(alloc: Global, text: &mut Bytes, ack: &Ack) -> Result<(), NoMemory>
+fn put_ack(text: &mut Bytes, ack: &Ack) -> Result<(), NoMemory>
     ensures { OnOk result (text.new ≡ text.old ++ ack_line ack.entry.now) }
 {
-    put_items(alloc, text, &PRIMITIVE_NAMES, ack)?;
+    put_items(text, &PRIMITIVE_NAMES, ack)?;
     text.push(b'\n')?;
     Ok(())
 }
 
 /// Appends the primitives of an acknowledgement that are shown, with these names.
-fn put_items(
-    alloc: Global,
-    text: &mut Bytes,
-    names: &[(&[u8], &[u8])],
-    ack: &Ack,
-) -> Result<(), NoMemory>
+fn put_items(text: &mut Bytes, names: &[(&[u8], &[u8])], ack: &Ack) -> Result<(), NoMemory>
     requires { length names.now ≡ primitive_count }
     ensures { OnOk result (text.new
         ≡ text.old ++ items_text false 0 (map (λ n. (n.0.now, n.1.now)) names.now) ack.entry.now) }
@@ -118,7 +114,7 @@ fn put_items(
     for (index, known) in names.iter().enumerate() {
         let number = index as u32;
         let value = prim(ack, number);
-        put_item(alloc, text, follows, number, known.1, value)?;
+        put_item(text, follows, number, known.1, value)?;
         follows = follows_after(follows, number, value);
     }
     Ok(())
@@ -126,7 +122,6 @@ fn put_items(
 
 /// Appends the item of a primitive if it is shown.
 fn put_item(
-    alloc: Global,
     text: &mut Bytes,
     follows: bool,
     number: u32,
@@ -140,9 +135,8 @@ fn put_item(
     }
     text.extend(gap(follows))?;
     text.extend(name)?;
-    let value = format!(in alloc; "={value}")?;
-    text.extend(value.as_bytes())?;
-    Ok(())
+    text.push(b'=')?;
+    put_number(text, value)
 }
 
 /// Whether an item stands before those that follow this primitive.

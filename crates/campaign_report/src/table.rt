@@ -4,6 +4,7 @@ ghost use Rattle.ccp_base.specs.Limits.{most_cases};
 ghost use Rattle.campaign_report.specs.TableText.{after_space, heading, headings, row_head, row_line, row_lines, soak_head, soak_text};
 ghost use Rattle.campaign_report.specs.TableText.{table_text, values};
 
+use crate::number::put_number;
 use crate::total::put_total;
 use agent_core::Agent;
 use campaign_core::{Column, Row, Rows};
@@ -30,7 +31,6 @@ pub fn table_text(
     let mut text = Bytes::new(alloc);
     put_heading(&mut text, Column::all())?;
     put_rows(
-        alloc,
         &mut text,
         rows.as_slice(),
         names.as_slice(),
@@ -82,7 +82,6 @@ fn put_headings(text: &mut Bytes, columns: &[Column]) -> Result<(), NoMemory>
 }
 
 fn put_rows(
-    alloc: Global,
     text: &mut Bytes,
     rows: &[Row],
     names: &[Name],
@@ -100,7 +99,7 @@ fn put_rows(
         let Some((agent, rest_agents)) = left_agents.split_first() else {
             return Ok(());
         };
-        put_row(alloc, text, name, agent, row)?;
+        put_row(text, name, agent, row)?;
         left = rest;
         left_names = rest_names;
         left_agents = rest_agents;
@@ -108,17 +107,11 @@ fn put_rows(
     Ok(())
 }
 
-fn put_row(
-    alloc: Global,
-    text: &mut Bytes,
-    name: &Name,
-    agent: &Agent,
-    row: &Row,
-) -> Result<(), NoMemory>
+fn put_row(text: &mut Bytes, name: &Name, agent: &Agent, row: &Row) -> Result<(), NoMemory>
     ensures { OnOk result (text.new ≡ text.old ++ row_line name.now agent.now row.entry.now) }
 {
     put_row_head(text, name, agent)?;
-    put_values(alloc, text, Column::all(), row)?;
+    put_values(text, Column::all(), row)?;
     text.push(b'\n')?;
     Ok(())
 }
@@ -133,26 +126,20 @@ fn put_row_head(text: &mut Bytes, name: &Name, agent: &Agent) -> Result<(), NoMe
 }
 
 /// Appends a row's numbers in columns, each after a space.
-fn put_values(
-    alloc: Global,
-    text: &mut Bytes,
-    columns: &[Column],
-    row: &Row,
-) -> Result<(), NoMemory>
+fn put_values(text: &mut Bytes, columns: &[Column], row: &Row) -> Result<(), NoMemory>
     ensures { OnOk result (text.new ≡ text.old ++ values columns.now row.entry.now) }
 {
     let mut left = columns;
     while let Some((column, rest)) = left.split_first() {
-        put_number(alloc, text, column.value(row))?;
+        put_after_space(text, column.value(row))?;
         left = rest;
     }
     Ok(())
 }
 
-fn put_number(alloc: Global, text: &mut Bytes, number: u64) -> Result<(), NoMemory>
+fn put_after_space(text: &mut Bytes, number: u64) -> Result<(), NoMemory>
     ensures { OnOk result (text.new ≡ text.old ++ after_space number) }
 {
-    let number = format!(in alloc; " {number}")?;
-    text.extend(number.as_bytes())?;
-    Ok(())
+    text.push(b' ')?;
+    put_number(text, number)
 }
