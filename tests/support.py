@@ -20,7 +20,7 @@ TRACES = [EXAMPLES / "traces" / (name + ".trace") for name in ("fixed", "wave", 
 
 
 def needs(*names: str) -> pytest.MarkDecorator:
-    """Marks a test that uses commands, as "gnuplot", or modules of Python, as "import pandas"."""
+    """Marks a test that uses commands, as "parallel", or modules of Python, as "import pandas"."""
     return pytest.mark.needs(*names)
 
 

@@ -15,7 +15,7 @@ pytestmark = needs("import matplotlib", "import pandas", "import jinja2")
 require("matplotlib")
 
 from ccp_tools.compare import cases  # noqa: E402
-from ccp_tools.compare.cases import Comparison, Queue  # noqa: E402
+from ccp_tools.compare.cases import Comparison  # noqa: E402
 from ccp_tools.traces import Trace, read_trace  # noqa: E402
 
 FAULTY = """(def (Report (volatile seen 0)) (least +infinity))
@@ -152,23 +152,6 @@ def test_no_sender_ends_before_the_span():
     assert grid.scenario()["cases"][0]["acks"] > 10_000 and grid.spans_us == {"wave": 15_000_000}
 
 
-def test_aggregated_links_keep_their_rate_and_period():
-    times = list(range(1, 8))
-    for count in (1, 2, 3, 7):
-        made = cases.aggregated(times, count, "t")
-        turns = made[-1] / times[-1]
-        assert turns == int(turns) and count * len(made) == turns * len(times)
-    grid = Comparison([("t", str(TRACES[0]))], aggregate=4, queues=[Queue(packets=100)])
-    case = grid.scenario()["cases"][0]
-    assert (case["mss"], case["queue"]) == (4 * 1448, 25)
-
-
-def test_queues_of_a_link():
-    link = Trace([1])  # a packet each millisecond
-    assert cases.queues("100, 1bdp,10..30:10") == [Queue(100), Queue(products=1), Queue(10), Queue(20), Queue(30)]
-    assert [queue.on(link, 20_000) for queue in (Queue(7), Queue(products=1.5), Queue(ms=100))] == [7, 30, 100]
-
-
 @pytest.mark.parametrize(
     "words, status, error",
     [
@@ -181,7 +164,9 @@ def test_queues_of_a_link():
         (["{trace}", "--senders", "reno", "--queue", "0", "--out", "{out}"], 2, "--queue: 0"),
         (["{trace}", "--senders", "reno", "--seconds", "600", "--out", "{out}"], 1, "--seconds 65."),
         (["{trace}", "--senders", "a=/nowhere", "--out", "{out}"], 1, "/nowhere: No such file"),
-        (["{trace}", "--senders", "a={trace}", "--acks", "3", "--out", "{out}"], 3, "program a Unexpected"),
+        (["{trace}", "--senders", "reno", "--seconds", "600", "--out", "{out}"], 1, "or --aggregate 10"),
+        (["{trace}", "--senders", "a={trace}", "--acks", "3", "--out", "{out}"], 1, "fixed.trace:1:1: program Unexp"),
+        (["{trace}", "--senders", "reno", "--queue-ms", "9", "--queue", "9", "--out", "{out}"], 2, "not allowed with"),
         (["{out}.toml", "--out", "{out}"], 1, ".toml: No such file"),
     ],
 )

@@ -218,12 +218,14 @@ UNDECLARED = "(def (Report (volatile x 0)))\n(when true (:= Report.y 1) (report)
 def test_an_undeclared_field_is_declared_and_never_a_local(program: Path) -> None:
     """A name with a prefix never becomes a local."""
     holds = ["`Report.y` has no meaning here", "declared in `(Report ..)` of `def`, without the prefix: `(y 0)`"]
-    for lacks in (["assign it", "A local ends"],):
+    for lacks in (["assign it", "A local ends", "Did you mean"],):
         explained(program, UNDECLARED, "check", holds=holds, lacks=lacks)
         whole = json.loads(scenario(ss="mine"))
         whole["programs"] = {"mine": UNDECLARED}
         explained(program, json.dumps(whole), "campaign", holds=["program mine Unknown at 2:16", *holds], lacks=lacks)
     explained(program, UNDECLARED.replace("Report.y", "Flow.rtt_us"), "check", lacks=["assign it"])
+    near = "(def (Report (lost 0)))\n(when true (:= Report.losts 1))"
+    explained(program, near, "check", holds=["Did you mean `Report.lost`?", "`(losts 0)`"])
     explained(
         program, "(def (x 0))\n(when true (:= y 1))\n(when (> y 1))", "check", holds=["assign it in this body first"]
     )
@@ -516,7 +518,7 @@ def test_warnings_of_scenarios(program: Path) -> None:
 def test_times_in_other_units(program: Path) -> None:
     holds = ["14:", "`delay_us` is 20 microseconds", "20 ms are 20000", "accepted by campaign, 1 warning"]
     explained(program, scenario(delay_us=20), status=0, holds=holds[1:])
-    explained(program, scenario(timeout_us=1), status=0, holds=["`timeout_us` is 1 microseconds", "1 s is 1000000"])
+    explained(program, scenario(timeout_us=1), status=0, holds=["`timeout_us` is 1 microsecond,", "1 s is 1000000"])
     explained(program, scenario(delay_us=0, timeout_us=1000), status=0, lacks=["warning"])
     whole = json.loads(scenario(delay_us=20))
     whole["cases"] = [dict(whole["cases"][0], name="c%d" % at) for at in range(5)]

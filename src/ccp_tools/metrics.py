@@ -1,6 +1,7 @@
 """Writes the figures of each case of a scenario: throughput, utilization, loss, delay, window, power, fairness.
 
     ccp metrics SCENARIO TEXT.. [--until S] [--from S] [--by COLUMNS] [--columns COLUMNS] [--format csv|json|parquet]
+    ccp metrics SCENARIO --orders all|N [--changes N] [--by COLUMNS] ..
 
     ccp campaign scenario.json > table.txt
     ccp acks scenario.json > acks.txt
@@ -15,6 +16,16 @@ figure whose text isn't given is empty. Texts of different runs, or of another s
 different lengths are comparable; --from S leaves out what came before, as slow start. --by groups cases by columns: for
 each combination of their values and each figure it writes the number of cases that have it, their mean, their standard
 deviation, and half of the 95 % interval of the mean by Student's t. --columns selects columns, and with --by figures.
+
+--orders runs a scenario of `shared` itself, in all orders of its flows or in N of them, and with --changes N each order
+with N small changes: the queue by up to three packets, each delay by up to 3 ms. A line is that of a flow in a run, and
+`--by sender` gives mean shares:
+
+    ccp scenario --for shared --shared fixed:100:5 --seconds 50 examples/traces/fixed.trace > two.json
+    ccp metrics two.json --orders all --changes 10 --by sender --columns share
+
+A loss rate is that of slow start where most packets are lost in the first 5 s: `slow_start_loss_share` has the share, and
+a line on standard error names such cases.
 
 A case with a fault, without a report, with a window that never moved, with held reports, or whose own program was
 changed by its agent has the reason in the column `doubts` and on standard error: its figures may not be those of the
@@ -34,8 +45,8 @@ from typing import IO, Any, Dict, Iterable, Iterator, List, Mapping, Sequence, T
 import numpy as np
 import pandas as pd
 
-from . import texts
-from .arguments import list_of, warn
+from . import orders, slow_start, texts
+from .arguments import add_ccp, list_of, warn, whole
 from .errors import BadText, CcpError, UsageError
 from .files import name_of, reason_of
 from .frames import AckFrame, Timeline, acks_in, timeline_of
@@ -47,7 +58,8 @@ READ = {"name", "delay_us", "timeout_us", "acks", "losses", "cwnd", "steps"}
 COUNTS = "packets lost timeouts reports held faults epochs".split()
 FIGURES = (
     "end_s span_s throughput_mbps utilization loss_rate queueing_mean_ms queueing_p50_ms queueing_p95_ms "
-    "queueing_p99_ms rtt_mean_ms power first_loss_s window_mean_bytes share jain link_utilization link_loss_rate"
+    "queueing_p99_ms rtt_mean_ms power first_loss_s slow_start_loss_share window_mean_bytes share jain "
+    "link_utilization link_loss_rate"
 ).split()
 METRICS = COUNTS + FIGURES
 PERCENTILES = (50, 95, 99)
@@ -78,6 +90,7 @@ SHOWN: Dict[str, Figure] = {
     "window_mean_bytes": Figure("mean window [kB]", 0.001, 1, True),
     "power": Figure("power [Mbit/s per ms]", 1, 3, True),
     "first_loss_s": Figure("first loss [s]", 1, 2, True),
+    "slow_start_loss_share": Figure("losses of slow start [%]", 100, 0),
     "end_s": Figure("last acknowledgement [s]", 1, 2, True),
     "span_s": Figure("measured span [s]", 1, 2, True),
     "share": Figure("share [%]", 100, 1, True),
@@ -196,6 +209,7 @@ def figures_of_acks(
     made.update(of_counts(span_us, chances, packets, counts["lost"], counts["timeouts"], counts["acked"]))
     losses = inside["now"].to_numpy()[inside["lost_pkts_sample"].to_numpy() > 0]
     made["first_loss_s"] = float(losses[0]) / 1e6 if len(losses) else None
+    made[slow_start.FIGURE] = slow_start.of_acks(case, inside)
     made.update(delays_of(inside, int(case["delay_us"])))
     if made.get("rtt_mean_ms"):
         made["power"] = (made["throughput_mbps"] or 0) / made["rtt_mean_ms"]
@@ -241,6 +255,7 @@ def figures_of_table(table: texts.Table, scenario: Mapping[str, Any], link: Link
         made.update(
             of_counts(span_us, chances, row["acks"] - row["timeouts"], row["lost"], row["timeouts"], row["acked"])
         )
+        made[slow_start.FIGURE] = slow_start.of_table(case, span_us, row["lost"])
         made.update((name, row[name]) for name in ("reports", "held", "faults", "epochs"))
     return found
 
@@ -299,6 +314,23 @@ def figures(
         [{**columns, **more} for columns, more in zip(own, found)], columns=[*names, *METRICS, "doubts"]
     )
     return made_frame.astype({name: "Int64" for name in COUNTS}).astype({name: "float64" for name in FIGURES})
+
+
+def figures_of_orders(
+    scenario: Mapping[str, Any], count: int = 0, changes: int = 0, path: str | Path | None = None
+) -> pd.DataFrame:
+    """The figures of flows that share a link, in `count` orders of the scenario's flows, or in all where it is 0, each
+    with so many small changes of queue and delays.
+
+    A row for each flow of each run, those of a run in the order of the scenario: the columns of `figures`, and `run` from
+    1, the flow's `place` in the run's order from 1, and `change`, 0 where nothing is changed. `path` is that of the
+    program. Errors: CcpError where the scenario isn't one of `shared`, or has too many orders."""
+    made = []
+    for run, table in orders.tables_of(orders.runs_of(dict(scenario), count, changes), path):
+        flows = range(len(run.order))
+        frame = figures(run.scenario, table=table).iloc[[run.place(flow) - 1 for flow in flows]]
+        made.append(frame.assign(run=run.number, place=[run.place(flow) for flow in flows], change=run.change))
+    return pd.concat(made, ignore_index=True)
 
 
 def add_acks(
@@ -508,6 +540,11 @@ def add_arguments(parser: argparse.ArgumentParser) -> None:
     parser.add_argument(
         "--columns", type=names, metavar="COLUMNS", help="the columns that are written; with --by the figures (all)"
     )
+    what = "runs a scenario of shared in all orders of its flows, or in N of them, in place of reading a text"
+    parser.add_argument("--orders", type=orders.order_count, metavar="all|N", help=what)
+    what = "with --orders: runs each order with N small changes of queue and delays (none)"
+    parser.add_argument("--changes", type=whole(1, orders.MOST_RUNS), default=0, metavar="N", help=what)
+    add_ccp(parser)
     parser.add_argument("--format", choices=("csv", "json", "parquet"), default="csv", help="the form (csv)")
     parser.add_argument("--json", dest="format", action="store_const", const="json", help="the same as --format json")
     parser.add_argument("--out", metavar="FILE", help="the file that is written (standard output)")
@@ -599,6 +636,14 @@ def paths_of(arguments: argparse.Namespace) -> List[str]:
     return paths
 
 
+def check_orders(arguments: argparse.Namespace) -> None:
+    """Refuses what doesn't go together with --orders."""
+    if arguments.orders is None and arguments.changes:
+        raise UsageError("--changes needs --orders")
+    if arguments.orders is not None and (arguments.texts or arguments.begin or arguments.until):
+        raise UsageError("--orders runs the scenario itself, without a text, --from and --until")
+
+
 def check_columns(option: str, found: Sequence[str], names: Sequence[str]) -> None:
     """Refuses the name of a column that isn't there."""
     for name in found:
@@ -630,20 +675,26 @@ def write_parquet(frame: pd.DataFrame, path: str | None) -> None:
 
 def run(arguments: argparse.Namespace) -> int:
     """Runs `ccp metrics`."""
-    paths = paths_of(arguments)
+    check_orders(arguments)
+    paths = paths_of(arguments) if arguments.orders is None else []
     window = Window(arguments.begin, arguments.until)
     if window.until_us is not None and window.until_us <= window.begin_us:
         raise UsageError("--until: a time after that of --from is expected")
     scenario = read_scenario(arguments.scenario)
-    names, _ = columns_of(scenario, arguments.scenario)
+    names = [*columns_of(scenario, arguments.scenario)[0], *(orders.COLUMNS if arguments.orders is not None else [])]
     check_columns("--by", arguments.by or [], names)
     known = METRICS if arguments.by else [*names, *METRICS, "doubts"]
     check_columns("--columns", arguments.columns or [], known)
-    given = read_given(paths)
-    frame = figures(scenario, table=given.table, timeline=given.timeline, acks=given.acks, window=window)
+    if arguments.orders is not None:
+        frame = figures_of_orders(scenario, arguments.orders, arguments.changes, arguments.ccp)
+    else:
+        given = read_given(paths)
+        frame = figures(scenario, table=given.table, timeline=given.timeline, acks=given.acks, window=window)
     if not arguments.quiet:
         print_doubts(frame)
         note_short(frame, window)
+        for text in slow_start.note_of(list(frame["case"]), list(frame[slow_start.FIGURE])):
+            warn(text)
     if arguments.by:
         made = groups(frame, arguments.by, arguments.columns or METRICS)
     else:

@@ -864,7 +864,7 @@ def series_of(timeline: Timeline, case: Any, number: int, name: str, acks: AckFr
     """The series of a flow. `length` is that of the windows of time, in microseconds."""
     reports = timeline.reports[timeline.reports["flow"] == number]
     first = timeline.epochs[timeline.epochs["flow"] == number]["cwnd"].iloc[0]
-    mss, unit = (case["mss"], case["mss"]) if case else (0, 1000)
+    mss, unit = (case["mss"], case["mss"] / case.get("aggregate", 1)) if case else (0, 1000)
     now = reports["now"].to_numpy(dtype=float) / 1e6
     if acks is None:
         breaks = breaks_in(reports)
@@ -1017,20 +1017,29 @@ def draw_marks(panel: Axes, found: List[Series], rows: List[str]) -> None:
 # ---- shares of a bottleneck
 
 
-def shared_runs(scenario: Mapping[str, Any], steps: int, path: str | None) -> Tuple[List[float], np.ndarray]:
-    """The times at which the bottleneck is looked at, in seconds, and the bytes acknowledged up to each, a column a
-    flow. A run of fewer rounds is the beginning of one of more."""
-    shared, times, rows = scenario["shared"], [0.0], [[0] * len(scenario["cases"])]
+def shared_tables(scenario: Mapping[str, Any], steps: int, path: str | None) -> List[texts.Table]:
+    """The tables of `shared` up to some points of time, at most `steps`, each with more rounds than the one before. A
+    run of fewer rounds is the beginning of one of more."""
+    shared, found, before = scenario["shared"], [], 0
     for step in range(1, steps + 1):
         upto = max(1, shared["rounds"] * step // steps)
         made = {**scenario, "shared": {**shared, "rounds": upto}}
         table = program.run_table(made, "shared", program=path)
         done = table.link["rounds"] if table.link else 0
-        if done * shared["quantum_us"] / 1e6 > times[-1]:
-            times.append(done * shared["quantum_us"] / 1e6)
-            rows.append([row["acked"] for row in table.rows])
+        if done > before:
+            found.append(table)
         if done < upto:
             break
+        before = done
+    return found
+
+
+def shared_runs(scenario: Mapping[str, Any], steps: int, path: str | None) -> Tuple[List[float], np.ndarray]:
+    """The times at which the bottleneck is looked at, in seconds, and the bytes acknowledged up to each, a column a
+    flow."""
+    tables, quantum_us = shared_tables(scenario, steps, path), scenario["shared"]["quantum_us"]
+    times = [0.0, *((table.link or {})["rounds"] * quantum_us / 1e6 for table in tables)]
+    rows = [[0] * len(scenario["cases"]), *([row["acked"] for row in table.rows] for table in tables)]
     return times, np.array(rows, dtype=float)
 
 

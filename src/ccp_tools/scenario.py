@@ -10,6 +10,9 @@ time the link can send one packet, and after the last time the trace begins anew
 named by its file without the ending .trace or .txt, so Mahimahi's X.down and X.up stay apart; NAME=FILE gives it
 another name. A trace is shortened only where --cut MS asks for it.
 
+Queues. --queue takes packets, or multiples of the bandwidth-delay product of the trace's mean rate and the delay, as
+1bdp; --queue-ms takes milliseconds at the mean rate.
+
 The grid. There is a case for each trace, sender, queue, delay, loss, seed and mark, in this order; the last one varies
 fastest. A list has commas between its values; among numbers, 10..100:10 is 10, 20 and on to 100, and 1..20 is each of
 them.
@@ -31,12 +34,17 @@ Length. A case ends after --acks acknowledgements. --seconds S computes them for
 link has chances in the first S seconds less the delay. So a sender that keeps the link busy ends at about S seconds,
 and a slower one later. With --shared, S is the length of the run.
 
+Fast links. A case has at most 65536 acknowledgements, 8 s at 100 Mbit/s. With --aggregate K a packet has K segments and
+takes K chances, so a case reaches K times as far. --mss, --queue, --mark, --lag and --losses stay in segments: a packet
+has K times --mss bytes, queue, mark and lag are divided by K and rounded, and a packet is lost if one of its segments
+is. docs/scenarios.md shows what changes.
+
 Limits. A scenario that one run doesn't accept (too many cases, bytes or acknowledgements for the mode of --for) is
 refused with its size. --whole writes it all the same, for `ccp over`, which splits it. --dry-run prints the size in
 place of the scenario.
 
 Beside what `ccp` reads, each case has the members `sender`, `loss`, and where they mean something `rate` (the share of
-packets lost by chance) and `seed`. `ccp` ignores them; `ccp metrics` shows them as columns.
+packets lost by chance), `seed` and `aggregate`. `ccp` ignores them; `ccp metrics` shows them as columns.
 
 Exit status: 0; 1 where a file is refused or a limit is passed; 2 where an argument is wrong."""
 from __future__ import annotations
@@ -49,9 +57,11 @@ from dataclasses import dataclass, field
 from pathlib import Path
 from typing import Any, Dict, Iterator, List, Mapping, Sequence, Tuple
 
-from .arguments import Parse, Parser, deprecated, is_name, list_of, named_file, ranges, shown, whole
+from . import aggregation
+from .arguments import Parse, Parser, deprecated, is_name, list_of, named_file, ranges, shown, warn, whole
 from .errors import CcpError, UsageError
 from .losses import Loss, loss
+from .queues import Queue, queues, queues_ms
 from .scenario_files import Scenario, read_scenario, scenario_of, scenario_text, write_scenario
 from .senders import Sender, add_senders, resolved, sender
 from .tables import AGENTS, LIMITS, MODES
@@ -205,7 +215,7 @@ class Point:
 
     trace: str
     sender: Sender | Steps
-    queue: int
+    queue: Queue
     delay_us: int
     loss: Loss
     at: int
@@ -219,12 +229,13 @@ class Grid:
     """What a scenario is made of; the defaults are those of the options. Times are in microseconds but for `cut_ms`.
 
     `traces` are pairs of a name (or None, then by the file) and a file. `seconds_us` is the length in place of `acks`.
-    `shared` is the bottleneck of all flows, as the member of a scenario, and `steps` are those of a rollout."""
+    `shared` is the bottleneck of all flows, as the member of a scenario, and `steps` are those of a rollout. A packet
+    has `aggregate` segments of `mss` bytes, and takes as many chances."""
 
     traces: List[Tuple[str | None, str]]
     senders: List[Sender] = field(default_factory=lambda: [sender(name) for name in AGENTS])
     portus: List[Tuple[str, str]] = field(default_factory=list)
-    queue: List[int] = field(default_factory=lambda: [100])
+    queue: List[Queue] = field(default_factory=lambda: [Queue(100)])
     delay_us: List[int] = field(default_factory=lambda: [20_000])
     losses: List[Loss] = field(default_factory=lambda: [Loss("none")])
     seeds: List[int] = field(default_factory=lambda: [1])
@@ -240,7 +251,14 @@ class Grid:
     shared: Dict[str, Any] | None = None
     steps: List[Steps] | None = None
     cwnd: List[int] | None = None
+    aggregate: int = 1
     is_quiet: bool = False
+
+    def __post_init__(self) -> None:
+        most = LIMITS["segment_bytes"]
+        if self.mss * self.aggregate > most:
+            text = "--aggregate %d: packets of %d bytes; at most %d are accepted, so at most --aggregate %d"
+            raise UsageError(text % (self.aggregate, self.mss * self.aggregate, most, most // self.mss))
 
     def scenario(self) -> Scenario:
         """The scenario. A file that can't be read, and a length that a trace doesn't have, is a CcpError."""
@@ -260,10 +278,15 @@ class Grid:
     def read_traces(self) -> Dict[str, List[int]]:
         """The times of each trace by its name."""
         traces: Dict[str, List[int]] = {}
-        for name, path in self.traces:
+        paths = [path for _, path in self.traces]
+        for at, (name, path) in enumerate(self.traces):
             if name in traces:
                 raise CcpError("two traces have the name %s" % name)
-            traces[name or trace_name(path, traces)] = self.read_times(path)
+            if path in paths[:at] and not self.is_quiet:
+                warn("the trace %s is given more than once" % path)
+            traces[name or trace_name(path, traces)] = aggregation.times_of(
+                self.read_times(path), self.aggregate, path
+            )
         return traces
 
     def read_times(self, path: str) -> List[int]:
@@ -296,7 +319,7 @@ class Grid:
     def ending(self, point: Point) -> str:
         """What a case's name has after its trace: its sender, and each value that differs between cases."""
         shown_values = [
-            (len(self.queue) > 1, "q%d" % point.queue),
+            (len(self.queue) > 1, "q" + point.queue.label),
             (len(self.delay_us) > 1, "d" + milliseconds_text(point.delay_us)),
             (len(self.losses) > 1, "l%d" % point.at),
             (len(self.seeds) > 1 and point.seed is not None and point.loss.seed is None, "s%s" % point.seed),
@@ -309,15 +332,28 @@ class Grid:
         """The cases of the points, each with a name of its own."""
         names = named([point.trace for point in points], [self.ending(point) for point in points])
         pairs = dict.fromkeys((point.trace, point.delay_us) for point in points)
-        counts = {(name, delay_us): self.acks_of(traces[name], name, delay_us) for name, delay_us in pairs}
-        return [self.case(one, name, counts[one.trace, one.delay_us]) for one, name in zip(points, names)]
+        links = {name: Trace(times) for name, times in traces.items()}
+        counts = {(name, delay_us): self.acks_of(links[name], name, delay_us) for name, delay_us in pairs}
+        return [
+            self.case(one, name, counts[one.trace, one.delay_us], self.packets_in(one.queue, links[one.trace], one))
+            for one, name in zip(points, names)
+        ]
 
-    def acks_of(self, times: List[int], name: str, delay_us: int) -> int:
+    def packets_in(self, queue: Queue, link: Trace, point: Point) -> int:
+        """The packets of a queue on the link of a point."""
+        packets, most = queue.on(link, point.delay_us, self.aggregate), LIMITS["queue"]
+        if packets > most:
+            more = aggregation.needed(packets, most, self.aggregate, self.mss)
+            what = "a queue of %s of the trace %s" % (queue.label, point.trace)
+            raise CcpError("%s is %d packets, and at most %d may wait: a shorter queue%s" % (what, packets, most, more))
+        return packets
+
+    def acks_of(self, link: Trace, name: str, delay_us: int) -> int:
         """The acknowledgements of a case: those asked for, or those that a busy link gives in the seconds asked for."""
         if not self.seconds_us or self.shared:
             return self.acks
-        link, most = Trace(times), LIMITS["acks"]
-        count, length = link.chances(self.seconds_us - delay_us), self.seconds_us / 1e6
+        most, length = LIMITS["acks"], self.seconds_us / 1e6
+        count = link.chances(self.seconds_us - delay_us)
         if count > most:
             longest = (link.chance_us(most - 1) + delay_us) // 1000
             what = "%g s of the trace %s are %d acknowledgements, and a case has at most %d" % (
@@ -326,27 +362,32 @@ class Grid:
                 count,
                 most,
             )
-            raise CcpError("%s: --seconds %d.%03d" % (what, *divmod(longest, 1000)))
+            more = aggregation.needed(count, most, self.aggregate, self.mss)
+            raise CcpError("%s: --seconds %d.%03d%s" % (what, *divmod(longest, 1000), more))
         if not count:
             delay = milliseconds_text(delay_us)
             raise CcpError("the trace %s has no chance in %g s less the delay of %s ms" % (name, length, delay))
         return count
 
-    def case(self, point: Point, name: str, acks: int) -> Dict[str, Any]:
-        """The case of a point."""
-        made: Dict[str, Any] = {"name": name, "trace": point.trace, "mss": self.mss, "queue": point.queue}
+    def case(self, point: Point, name: str, acks: int, queue: int) -> Dict[str, Any]:
+        """The case of a point. What the grid has in segments is counted in packets here."""
+        count = self.aggregate
+        made: Dict[str, Any] = {"name": name, "trace": point.trace, "mss": self.mss * count, "queue": queue}
         made.update(delay_us=point.delay_us, timeout_us=self.timeout_us, acks=acks)
         if isinstance(point.sender, Steps):
             made.update(cwnd=point.cwnd, steps=list(point.sender.steps))
         else:
-            made = {"name": name, "agent": point.sender.agent, **made, "slots": self.slots, "lag": self.lag}
+            made = {"name": name, "agent": point.sender.agent, **made, "slots": self.slots}
+            made["lag"] = aggregation.packets_of(self.lag, count)
             programs = (("ss", point.sender.slow), ("ca", point.sender.avoid))
             made.update({key: value for key, value in programs if value})
-        lost = point.loss.drawn(point.seed, 2 * acks)
+        lost = aggregation.lost_packets(point.loss.drawn(point.seed, 2 * acks * count), count)
         if lost:
             made["losses"] = lost
-        beside: Dict[str, Any] = {"mark": point.mark, "sender": point.sender.label, "loss": point.loss.label}
-        beside.update(rate=point.loss.rate, seed=point.seed)
+        mark_at = point.mark and aggregation.packets_of(point.mark, count)
+        beside: Dict[str, Any] = {"mark": mark_at, "sender": point.sender.label, "loss": point.loss.label}
+        beside.update(rate=aggregation.share_lost(point.loss, count), seed=point.seed)
+        beside["aggregate"] = count if count > 1 else None
         made.update({key: value for key, value in beside.items() if value is not None})
         return made
 
@@ -354,6 +395,7 @@ class Grid:
 def with_length(grid: Grid, traces: Dict[str, List[int]], flows: int) -> Dict[str, Any]:
     """The member `shared`, with its rounds; where seconds are given, each flow may have all that the link serves."""
     link = dict(grid.shared or {})
+    link["queue"] = aggregation.packets_of(link["queue"], grid.aggregate)
     if link["trace"] not in traces:
         raise CcpError("--shared: there is no trace %s; there are %s" % (link["trace"], ", ".join(traces)))
     if grid.seconds_us:
@@ -425,7 +467,7 @@ def size_text(mode: str, made: Scenario, size: int) -> str:
 
 def add_grid(parser: argparse.ArgumentParser) -> None:
     """Adds the trace files, the senders and the options of the grid, which `grid_of` reads, as for `ccp compare`."""
-    count, delay, lists = whole(1, LIMITS["queue"]), LIMITS["delay_us"], "LIST"
+    delay, lists = LIMITS["delay_us"], "LIST"
     add = parser.add_argument
     add(
         "traces",
@@ -435,12 +477,11 @@ def add_grid(parser: argparse.ArgumentParser) -> None:
         help="a recording; there is a case or more for each",
     )
     add_senders(parser)
-    add(
-        "--queue",
-        type=ranges(count, count),
-        metavar=lists,
-        help="packets that may wait at the bottleneck, 1 to 4096 (100)",
-    )
+    queue = parser.add_mutually_exclusive_group()
+    what = "packets that may wait at the bottleneck, 1 to 4096, or a product of bandwidth and delay, as 100,1bdp (100)"
+    queue.add_argument("--queue", type=queues, metavar=lists, help=what)
+    what = "the same in milliseconds at the trace's mean rate"
+    queue.add_argument("--queue-ms", type=queues_ms, metavar=lists, help=what)
     delays = ranges(milliseconds(0, delay), milliseconds(1, delay))
     add(
         "--delay-ms",
@@ -454,10 +495,10 @@ def add_grid(parser: argparse.ArgumentParser) -> None:
         "--seeds", type=ranges(whole(0, 2**32 - 1)), metavar=lists, help="seeds of the losses by chance, as 1..20 (1)"
     )
     what = "waiting packets from which on a packet is marked, 1 to 4096, or none (none)"
-    add("--mark", type=ranges(mark, count), metavar=lists, help=what)
+    add("--mark", type=ranges(mark, whole(1, LIMITS["mark"])), metavar=lists, help=what)
     add("--mss", type=whole(1, LIMITS["segment_bytes"]), metavar="BYTES", help="bytes of a segment (1448)")
     length = parser.add_mutually_exclusive_group()
-    what = "acknowledgements of a case, at most 65536 (4096)"
+    what = "acknowledgements of a case, at most 65536 (4096); --aggregate reaches further"
     length.add_argument("--acks", type=whole(0, LIMITS["acks"]), metavar="N", help=what)
     length.add_argument("--seconds", type=seconds, metavar="S", help="the length in place of acknowledgements")
     what = "how long a sender waits if no acknowledgement can arrive, up to 60000 ms (1000)"
@@ -466,6 +507,8 @@ def add_grid(parser: argparse.ArgumentParser) -> None:
     what = "acknowledgements that an answer takes in a campaign (0)"
     add("--lag", type=whole(0, LIMITS["lag"]), metavar="N", help=what)
     add("--cut", type=whole(1, LIMITS["trace_ms"]), metavar="MS", help="only the times of each trace up to this one")
+    what = "segments of a packet, which takes as many chances: for fast links (1)"
+    add("--aggregate", type=whole(1, LIMITS["segment_bytes"]), metavar="K", help=what)
 
 
 def add_arguments(parser: argparse.ArgumentParser) -> None:
@@ -500,6 +543,7 @@ MEMBERS = {
 def grid_of(arguments: argparse.Namespace) -> Grid:
     """The grid that arguments ask for; what doesn't go together is a UsageError."""
     values = {MEMBERS.get(name, name): value for name, value in vars(arguments).items() if value is not None}
+    values["queue"] = values.get("queue") or values.get("queue_ms") or [Queue(100)]
     grid = Grid(**{name: value for name, value in values.items() if name in Grid.__dataclass_fields__})
     check_mode(grid, arguments)
     if arguments.seeds and not any(one.chances and one.seed is None for one in grid.losses):

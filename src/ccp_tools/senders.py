@@ -14,7 +14,7 @@ from __future__ import annotations
 import argparse
 from dataclasses import dataclass, replace
 from pathlib import Path
-from typing import Dict, List, Mapping, Sequence, Tuple
+from typing import Dict, List, Sequence, Tuple
 
 from .arguments import Parse, add_portus, is_name, list_of, one_of, shown
 from .errors import CcpError, UsageError
@@ -141,12 +141,28 @@ def named_in(one: Sender, role: str, texts: Dict[str, str]) -> str | None:
     program = getattr(one, role)
     if program is None or program in texts:
         return program
-    name = one.label if one.slow == one.avoid else "%s.%s" % (one.label, "ss" if role == "slow" else "ca")
+    name = name_in(one, role)
     text = text_of_program(one, program)
     if not is_name(name) or texts.get(name, text) != text:
         raise CcpError("the sender %s: its program needs a name of its own: --portus NAME=%s" % (one.label, program))
     texts[name] = text
     return name
+
+
+def name_in(one: Sender, role: str) -> str:
+    """The name of a program that a sender's file in a role gets."""
+    return one.label if one.slow == one.avoid else "%s.%s" % (one.label, "ss" if role == "slow" else "ca")
+
+
+def files_of(found: Sequence[Sender], portus: Sequence[Tuple[str, str]]) -> Dict[str, str]:
+    """The files of programs, by the names that `resolved` gives their texts."""
+    files = dict(portus)
+    for one in found:
+        for role in ("slow", "avoid"):
+            program = getattr(one, role)
+            if program and program not in files:
+                files[name_in(one, role)] = program
+    return files
 
 
 def text_of_program(one: Sender, program: str) -> str:
@@ -158,21 +174,3 @@ def text_of_program(one: Sender, program: str) -> str:
             more = "no --portus has the name %s, and there is no such file" % program
             raise CcpError("the sender %s: %s" % (one.label, more if "No such file" in str(error) else error)) from None
         raise
-
-
-def words_of(found: Sequence[Sender]) -> str:
-    """Senders as --senders takes them."""
-    words = []
-    for one in found:
-        if not one.programs():
-            words.append(one.agent)
-        elif one.slow == one.avoid:
-            words.append("%s=%s:%s" % (one.label, one.agent, one.avoid))
-        else:
-            words.append("%s=%s:%s:%s" % (one.label, one.agent, one.slow or "", one.avoid))
-    return ",".join(words)
-
-
-def portus_words(texts: Mapping[str, str]) -> List[str]:
-    """The options --portus for files by their names."""
-    return [word for name, path in texts.items() for word in ("--portus", "%s=%s" % (name, path))]

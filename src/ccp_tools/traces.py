@@ -32,7 +32,7 @@ import sys
 from typing import Any, Dict, Iterable, List, Sequence
 
 from . import captures, link_logs, synthetic
-from .arguments import deprecated, list_of, whole
+from .arguments import deprecated, list_of, warn, whole
 from .errors import CcpError, UsageError
 from .files import PathLike, name_of
 from .link_logs import Measured, measured_of_log, nearest_rank
@@ -44,6 +44,8 @@ from .trace_files import read_text, recognised
 __all__ = ["Measured", "Trace", "measured_of_log", "nearest_rank", "read_trace", "trace_text", "trace_times"]
 
 LONGEST_MS: int = LIMITS["trace_ms"]
+# Linux's least retransmission timeout: in a longer gap the timer of a real sender fires, and ccp has none
+LONG_GAP_MS = 200
 
 
 class Trace:
@@ -124,6 +126,22 @@ def trace_text(times: Iterable[int]) -> str:
     return "".join("%d\n" % time for time in times)
 
 
+def gaps_of(times: Sequence[int]) -> List[int]:
+    """The milliseconds before each chance of a trace. The wait before the first one counts too, since the trace begins
+    anew."""
+    return [after - before for before, after in zip([0, *times], times)]
+
+
+def gap_warning(name: str, times: Sequence[int]) -> str | None:
+    """What figures on a trace with a gap longer than LONG_GAP_MS lack, or None where it has no such gap."""
+    gaps = [gap for gap in gaps_of(times) if gap > LONG_GAP_MS]
+    if not gaps:
+        return None
+    what = "%d gap%s longer than %d ms, up to %d ms" % (len(gaps), "" if len(gaps) == 1 else "s", LONG_GAP_MS, max(gaps))
+    why = "the retransmission timer of a real sender fires there, and ccp has none"
+    return "the trace %s has %s: %s" % (name, what, why)
+
+
 def mbits(packets: float, milliseconds: float, size: int) -> float:
     """So many packets of a size in bytes, in Mbit/s over a time."""
     return 8 * size * packets / (1000 * milliseconds)
@@ -152,14 +170,12 @@ def counts_in(times: Sequence[int], window: int) -> List[int]:
     return counts
 
 
-def info_of(path: str, window: int, size: int) -> Dict[str, Any]:
-    """What a trace is like: its length, rates in windows of so many milliseconds, and gaps."""
-    times = read_trace(path, None)
+def info_of(path: str, times: Sequence[int], window: int, size: int) -> Dict[str, Any]:
+    """What the trace of a file is like: its length, rates in windows of so many milliseconds, and gaps."""
     if times[-1] // window > captures.MOST_CHANCES:
         raise CcpError("%s: its last time is %d ms, which is no trace's" % (name_of(path), times[-1]))
     rates = sorted(mbits(count, min(window, times[-1]), size) for count in counts_in(times, window))
-    # the wait before the first time counts too, since the trace begins anew
-    gaps = [b - a for a, b in zip([0, *times], times)]
+    gaps = gaps_of(times)
     return {
         "trace": path,
         "chances": len(times),
@@ -172,6 +188,7 @@ def info_of(path: str, window: int, size: int) -> Dict[str, Any]:
         "window_most_mbps": round(rates[-1], 3),
         "gap_most_ms": max(gaps),
         "gaps_over_100_ms": sum(gap > 100 for gap in gaps),
+        "gaps_over_200_ms": sum(gap > LONG_GAP_MS for gap in gaps),
         "gaps_over_1000_ms": sum(gap > 1000 for gap in gaps),
         "most_in_a_millisecond": most_equal(times),
         "bytes_in_a_scenario": len(json.dumps(trace_text(times))),
@@ -188,8 +205,13 @@ def most_equal(times: Sequence[int]) -> int:
 
 
 def info(given: argparse.Namespace) -> None:
-    """Prints what traces are like."""
-    show([info_of(path, given.window, given.packet) for path in given.traces], "trace", given.json)
+    """Prints what traces are like, and before it on standard error which ones have long gaps."""
+    traces = {path: read_trace(path, None) for path in given.traces}
+    pages = [info_of(path, times, given.window, given.packet) for path, times in traces.items()]
+    if not given.quiet:
+        for text in filter(None, (gap_warning(name_of(path), times) for path, times in traces.items())):
+            warn(text)
+    show(pages, "trace", given.json)
 
 
 def show(found: List[Dict[str, Any]], head: str, is_json: bool) -> None:

@@ -12,19 +12,21 @@ from typing import Any, Dict, List, Mapping, Sequence
 import pandas as pd
 
 from .. import metrics, plots, program
-from ..arguments import Parser, add_ccp, warn, whole
+from ..arguments import Parser, add_ccp, warn
 from ..errors import CcpError, UsageError
 from ..files import read_text, reason_of
 from ..metrics import Window
 from ..scenario import add_grid, check_longest, grid_of, seconds
 from ..scenario_files import Scenario, scenario_text
-from ..senders import senders
-from . import report, shared
-from .cases import Comparison, Queue, queues, queues_ms
+from ..senders import files_of, senders
+from . import programs, report, shared
+from .cases import Comparison
 from .runs import Progress, Results, Runner, shown_cases
 
 # members of Comparison that are kept in compare.toml as they stand, by the names of their options
 KEPT = ("mss", "acks", "slots", "lag", "cut", "aggregate", "title")
+# options of which one replaces the other
+ALTERNATIVES = (("queue", "queue_ms"), ("seconds", "acks"))
 # what versions without a manifest wrote
 OLD_FILES = (
     "table.txt",
@@ -60,16 +62,10 @@ def add_arguments(parser: argparse.ArgumentParser) -> None:
     add_grid(parser)
     actions = parser._option_string_actions
     actions["--senders"].type = named_senders
-    actions["--queue"].type = queues
-    actions["--queue"].help = "packets that may wait, or a product of bandwidth and delay, as 100,1bdp (100)"
     actions["--seconds"].help = "what all senders are measured over (the trace's length, at least 15 s)"
     actions["--acks"].help = "acknowledgements of a case, in place of seconds"
     add = parser.add_argument
-    add("--queue-ms", type=queues_ms, metavar="LIST", help="the queue in milliseconds at the link's mean rate")
     add("--from", dest="begin", type=seconds, metavar="S", help="leaves out the first S seconds, as slow start (0)")
-    add(
-        "--aggregate", type=whole(1, 45), metavar="K", help="K chances are one packet of K segments, for fast links (1)"
-    )
     add("--shared", action="store_true", help="also runs all senders together over each trace, and shows their shares")
     add("--different-spans", action="store_true", help="accepts cases that are measured over different spans")
     add("--out", metavar="DIR", help="the folder that gets all files")
@@ -132,9 +128,13 @@ def with_file(arguments: argparse.Namespace) -> argparse.Namespace:
     except UsageError as error:
         raise CcpError("%s: %s" % (paths[0], error)) from None
     defaults = vars(parser.parse_args(["trace"]))
-    for name, value in vars(arguments).items():
-        if name != "traces" and value != defaults.get(name):
-            setattr(made, name, value)
+    given = {name: value for name, value in vars(arguments).items() if value != defaults.get(name)}
+    given.pop("traces", None)
+    for pair in ALTERNATIVES:
+        if set(pair) & set(given):
+            given = {**dict.fromkeys(pair), **given}
+    for name, value in given.items():
+        setattr(made, name, value)
     return made
 
 
@@ -144,7 +144,7 @@ def toml_text(arguments: argparse.Namespace, grid: Comparison) -> str:
         "traces": ["%s=%s" % (name, path) if name else path for name, path in arguments.traces],
         "senders": arguments.senders.words,
         "portus": ["%s=%s" % pair for pair in arguments.portus],
-        "queue-ms" if arguments.queue_ms else "queue": [queue.text() for queue in grid.queues],
+        "queue-ms" if arguments.queue_ms else "queue": [queue.text() for queue in grid.queue],
     }
     if arguments.losses:
         values["losses"] = [one.label + (":%d" % one.seed if one.seed is not None else "") for one in arguments.losses]
@@ -208,16 +208,9 @@ def comparison_of(arguments: argparse.Namespace) -> Comparison:
     """The grid that the arguments ask for."""
     if not arguments.senders:
         raise UsageError("--senders LIST is expected, as --senders reno,cubic")
-    if arguments.queue and arguments.queue_ms:
-        raise UsageError("--queue and --queue-ms don't go together")
-    plain = argparse.Namespace(**{**vars(arguments), "queue": None, "mode": "campaign", "whole": True})
+    plain = argparse.Namespace(**{**vars(arguments), "mode": "campaign", "whole": True})
     plain.steps = plain.cwnd = plain.shared = None
-    grid = grid_of(plain)
-    values = {name: value for name, value in vars(grid).items() if name != "queue"}
-    listed = arguments.queue or arguments.queue_ms or [Queue(packets=100)]
-    return Comparison(
-        **values, queues=listed, is_by_acks=arguments.acks is not None, aggregate=arguments.aggregate or 1
-    )
+    return Comparison(**vars(grid_of(plain)), is_by_acks=arguments.acks is not None)
 
 
 def windows_of(grid: Comparison, scenario: Scenario, begin_us: int) -> Dict[str, Window]:
@@ -245,9 +238,13 @@ def run(arguments: argparse.Namespace) -> int:
     scenario = grid.scenario()
     check_longest(scenario)
     if not arguments.quiet:
-        for text in grid.notes:
+        for text in [*grid.notes, *report.gap_warnings(scenario)]:
             warn(text)
     path = program.find_program(arguments.ccp)
+    remarks = programs.check(files_of(arguments.senders, arguments.portus), scenario["programs"], path)
+    if not arguments.quiet:
+        for text in remarks:
+            warn(text)
     if arguments.dry_run:
         print(size_text(grid, scenario, path), end="")
         return 0
@@ -265,7 +262,7 @@ def run(arguments: argparse.Namespace) -> int:
         shown = shown_cases(scenario)
         numbers = [number for some in shown.values() for number in some]
         results = Runner(path, folder, progress).run(scenario, windows, answered_of(arguments), numbers)
-        finish(arguments, scenario, results, windows, folder, progress, path)
+        finish(arguments, scenario, results, windows, folder, progress, path, remarks)
     finally:
         write_manifest(folder, before)
     return 0
@@ -279,6 +276,7 @@ def finish(
     folder: Path,
     progress: Progress,
     path: Path,
+    remarks: Sequence[str],
 ) -> None:
     """Writes the figures, the plots and the report, and prints the table."""
     frame = results.figures
@@ -299,7 +297,7 @@ def finish(
         write(folder, "shared.json", shared.json_text(sharings))
     progress.say("plots")
     made = report.draw(scenario, results, folder, plots.look_of(arguments), windows, sharings)
-    page = report.Page(arguments, scenario, frame, by, groups, results, made, windows, path, sharings)
+    page = report.Page(arguments, scenario, frame, by, groups, results, made, windows, path, sharings, remarks)
     write(folder, "report.html", page.html((folder / "compare.toml").read_text()))
     progress.say("the report: %s" % (folder / "report.html"))
     sys.stdout.write(page.summary())

@@ -17,12 +17,12 @@ import matplotlib
 import pandas as pd
 from matplotlib.figure import Figure
 
-from .. import metrics, plots, program
+from .. import metrics, plots, program, slow_start
 from ..metrics import SHOWN, Window, counted
 from ..plots import Look
 from ..scenario_files import Scenario
 from ..senders import resolved
-from ..traces import Trace, trace_times
+from ..traces import Trace, gap_warning, gaps_of, trace_times
 from . import shared
 from .runs import Results, joined, shown_cases
 
@@ -227,6 +227,13 @@ def summary(rows: Sequence[Row], by: Sequence[str]) -> str:
     return "\n".join(made) + "\n"
 
 
+def marks_of(frame: pd.DataFrame) -> Tuple[List[str], List[float]]:
+    """What the rows of the figures are of, and the shares of their losses that are slow start's, over seeds in the mean."""
+    place = ["%s on %s" % pair for pair in zip(frame["sender"], frame["trace"])]
+    means = frame[slow_start.FIGURE].groupby(place, sort=False).mean()
+    return list(means.index), list(means)
+
+
 def place_of(row: Row) -> str:
     """What a row is of, in words: `bbr on lte, queue 20`."""
     rest = [plots.said_of(name, value) for name, value in row.by.items() if name not in ("trace", "sender")]
@@ -280,13 +287,15 @@ class Page:
     windows: Mapping[str, Window]
     path: Path
     sharings: Sequence[shared.Sharing] = ()
+    remarks: Sequence[str] = ()
 
     @property
     def rows(self) -> List[Row]:
         return rows_of(self.frame, self.by, self.groups)
 
     def summary(self) -> str:
-        return summary(self.rows, self.by)
+        notes = slow_start.note_of(*marks_of(self.frame))
+        return summary(self.rows, self.by) + "".join("lost%%: %s\n" % text for text in notes)
 
     def html(self, options: str) -> str:
         """The report, one file that needs no other."""
@@ -314,6 +323,7 @@ class Page:
             overall_heads=[SHOWN[name].label for name in OVERALL],
             shared=shared.table_of(self.sharings),
             shared_heads=shared.HEADS,
+            shared_rounds=", ".join("%s %g ms" % (one.trace, one.quantum_us / 1000) for one in self.sharings),
             fair=shared.FAIR,
             counts=metrics.rows_of(self.frame[["case", *COUNTED, "doubts"]]),
             count_heads=COUNTED,
@@ -328,6 +338,8 @@ class Page:
     def warnings(self, rows: Sequence[Row]) -> List[str]:
         """What a reader has to know before the figures."""
         found = ["%s: %s" % (place_of(row), row.doubts) for row in rows if row.doubts]
+        found += slow_start.note_of(*marks_of(self.frame))
+        found += [*self.remarks, *(text for one in self.sharings for text in one.doubts)]
         if metrics.spans_differ(self.frame):
             found.append("Senders are measured over different spans, so their figures aren't comparable as they stand.")
         return found
@@ -335,16 +347,17 @@ class Page:
     def conditions(self) -> List[Tuple[str, str]]:
         """The conditions of the comparison, each with its values."""
         shown = [
-            ("queue [packets]", "queue", 1),
-            ("delay from chance to acknowledgement [ms]", "delay_ms", 1),
-            ("losses beside those of the queue", "loss", 1),
-            ("seeds", "seed", 1),
-            ("marks from [waiting packets]", "mark", 1),
-            ("segment [bytes]", "mss", 1),
-            ("timeout [ms]", "timeout_ms", 1),
-            ("answer's lag [acknowledgements]", "lag", 1),
+            ("delay from chance to acknowledgement [ms]", "delay_ms"),
+            ("losses beside those of the queue", "loss"),
+            ("seeds", "seed"),
+            ("marks from [waiting packets]", "mark"),
+            ("timeout [ms]", "timeout_ms"),
+            ("answer's lag [acknowledgements]", "lag"),
         ]
-        made = [(head, values_of(self.frame[name])) for head, name, _ in shown]
+        made = [("queue [packets]", self.queues()), *((head, values_of(self.frame[name])) for head, name in shown)]
+        many = self.arguments.aggregate or 1
+        size = values_of(self.frame["mss"] // many)
+        made.append(("segment [bytes]", size if many == 1 else "%s, %d in a packet" % (size, many)))
         spans = []
         for name, window in self.windows.items():
             measured = self.frame[self.frame["trace"] == name]["span_s"]
@@ -352,7 +365,13 @@ class Page:
             whole = window.until_us / 1e6 if window.until_us is not None else None
             length = "%g" % whole if whole is not None else "%.3g to %.3g" % (measured.min(), measured.max())
             spans.append("%s: %s%s" % (name, begin, length))
-        return [("measured [s of virtual time]", ", ".join(spans)), *made]
+        gaps = [("gaps", text) for text in gap_warnings(self.scenario)]
+        return [("measured [s of virtual time]", ", ".join(spans)), *made, *gaps]
+
+    def queues(self) -> str:
+        """The queues in packets, after how they were asked for where that was in other units."""
+        asked = [queue.label for queue in self.arguments.queue_ms or self.arguments.queue or [] if not queue.packets]
+        return ": ".join([*([", ".join(asked)] if asked else []), values_of(self.frame["queue"])])
 
     def cells(self, rows: Sequence[Row], row: Row) -> Dict[str, Any]:
         cells = [
@@ -365,10 +384,9 @@ class Page:
         made = []
         for name, text in self.scenario["traces"].items():
             trace = Trace(trace_times(text, name))
-            gaps = [b - a for a, b in zip(trace.times, trace.times[1:])] + [trace.times[0]]
-            rate = 12 * len(trace.times) / trace.times[-1]
+            rate = 12 * len(trace.times) * (self.arguments.aggregate or 1) / trace.times[-1]
             made.append(
-                {"name": name, "rate": rate, "length": trace.times[-1] / 1000, "gap": max(gaps), "sha256": sha256(text)}
+                {"name": name, "rate": rate, "length": trace.times[-1] / 1000, "gap": max(gaps_of(trace.times)), "sha256": sha256(text)}
             )
         return made
 
@@ -380,6 +398,12 @@ class Page:
             programs = [{"name": name, "text": texts[name], "sha256": sha256(texts[name])} for name in one.programs()]
             made.append({"label": one.label, "how": how_of(one, self.frame), "word": word, "programs": programs})
         return made
+
+
+def gap_warnings(scenario: Scenario) -> List[str]:
+    """What figures on the traces of a scenario lack that have long gaps."""
+    found = [gap_warning(name, trace_times(text, name)) for name, text in scenario["traces"].items()]
+    return [text for text in found if text]
 
 
 def how_of(one: Any, frame: pd.DataFrame) -> str:

@@ -197,7 +197,8 @@ def hints_of_unknown(program: Program, _start: int, node: Optional[Node]) -> Lis
         if name.split(".")[1].lower() == last.lower():
             return found + ["The primitive is `%s`." % name]
     if word.startswith("Report."):
-        near = did_you_mean(word, ["Report." + name for name in program.fields])
+        field = nearest(last, program.fields)
+        near = ["Did you mean `Report.%s`?" % field] if field else []
         return (
             found + near + ["Fields are declared in `(Report ..)` of `def`, without the prefix: `(%s 0)`." % cut(last)]
         )

@@ -129,7 +129,7 @@ def of_times(scenario: Scenario, mode: str) -> Iterator[Finding]:
             number = value.whole() if value is not None else None
             if value is not None and number is not None and 0 < number < LEAST_TIME and number not in seen:
                 seen.add(number)
-                what = "`%s` is %d microseconds, less than a millisecond" % (member, number)
+                what = "`%s` is %d microsecond%s, less than a millisecond" % (member, number, "s" * (number > 1))
                 yield Finding("warning", value.start, value.end, what, ["It counts microseconds: %s." % TIMES[member]])
 
 

@@ -1,0 +1,76 @@
+"""The cases that each stack runs, and one run of a case."""
+
+from __future__ import annotations
+
+import itertools
+from dataclasses import dataclass
+from pathlib import Path
+from typing import Any, Dict, Iterable, List, Sequence
+
+import pandas as pd
+
+TOP = Path(__file__).resolve().parents[2]
+TRACES = TOP / "examples" / "traces"
+SEGMENT_BYTES = 1448
+TIMEOUT_US = 1_000_000
+ALGORITHMS = ("reno", "cubic")
+
+
+@dataclass(frozen=True)
+class Case:
+    """A bulk flow of an algorithm, `reno` or `cubic`, over a link: a trace's name, a queue in packets, a round-trip time
+    without waiting in milliseconds, and the segments that end it. The packets in `losses` are lost beside those of the
+    queue, by their numbers from 0."""
+
+    trace: str
+    queue: int
+    delay_ms: int
+    algorithm: str
+    segments: int = 30_000
+    losses: Sequence[int] = ()
+
+    @property
+    def name(self) -> str:
+        return "%s-%d-%d-%s" % (self.trace, self.queue, self.delay_ms, self.algorithm)
+
+    @property
+    def cell(self) -> Any:
+        """What cases of both algorithms have in common."""
+        return self.trace, self.queue, self.delay_ms
+
+    @property
+    def trace_path(self) -> Path:
+        return TRACES / (self.trace + ".trace")
+
+    def scenario_case(self, sender: str) -> Dict[str, Any]:
+        """The members of this case that the figures of `ccp_tools.metrics` are computed with."""
+        made = {"name": self.name, "trace": self.trace, "sender": sender, "mss": SEGMENT_BYTES, "queue": self.queue}
+        return {**made, "delay_us": 1000 * self.delay_ms, "timeout_us": TIMEOUT_US, "acks": self.segments}
+
+
+@dataclass(frozen=True)
+class Outcome:
+    """What a run of a case gave. `acks` has a row for each packet that the link served, with the columns of
+    `ccp_tools.frames.AckFrame`, and `windows` the congestion window over time: `seconds`, and `segments`. `notes` are
+    columns of the results that only one stack has."""
+
+    case: Case
+    stack: str
+    sender: str
+    acks: pd.DataFrame
+    windows: pd.DataFrame
+    run: int = 1
+    notes: Dict[str, Any] | None = None
+
+
+def grid(
+    traces: Iterable[str],
+    queues: Iterable[int],
+    delays_ms: Iterable[int],
+    algorithms: Iterable[str],
+    segments: int,
+    losses: Sequence[int] = (),
+) -> List[Case]:
+    """The cases of a grid, the algorithm varying fastest."""
+    axes = itertools.product(traces, queues, delays_ms, algorithms)
+    return [Case(*values, segments=segments, losses=tuple(losses)) for values in axes]

@@ -1,0 +1,99 @@
+"""How far `ccp` may be from full TCP stacks."""
+
+from __future__ import annotations
+
+from dataclasses import dataclass
+from typing import Any, Iterator, List
+
+import pandas as pd
+
+from .results import cells_of, medians
+
+# Reno on the fixed link: the most distance in per cent
+RENO_PERCENT = 5
+RENO_FIGURES = ("throughput_mbps", "queueing_mean_ms", "queueing_p95_ms")
+# losses of CUBIC: the greatest factor, on these traces with these queues
+CUBIC_FACTOR = 1.5
+CUBIC_TRACES, CUBIC_QUEUES = ("fixed", "wave"), (100, 250)
+# the senders whose order is compared, and those of the stacks that they are compared with
+PAIRS = (("reno", "cubic"), ("linux-reno", "linux-cubic"))
+
+
+@dataclass(frozen=True)
+class Finding:
+    """A figure of a sender of `ccp` beside the reference's, in a cell, and whether the limit holds."""
+
+    limit: str
+    cell: Any
+    sender: str
+    value: str
+    holds: bool
+
+
+def reference_of(frame: pd.DataFrame) -> str:
+    """The stack that `ccp` is compared with: the kernel's where it was run, else ns-3."""
+    return "linux" if (frame["stack"] == "linux").any() else "ns-3"
+
+
+class Figures:
+    """The medians of all runs by stack, sender and cell."""
+
+    def __init__(self, frame: pd.DataFrame) -> None:
+        self.frame = medians(frame)
+
+    def has(self, stack: str, sender: str, cell: Any) -> bool:
+        return self.key(stack, sender, cell) in self.frame.index
+
+    def of(self, stack: str, sender: str, cell: Any, name: str) -> float:
+        return float(self.frame.loc[self.key(stack, sender, cell), name])
+
+    @staticmethod
+    def key(stack: str, sender: str, cell: Any) -> Any:
+        return (stack, sender, *cell, "cubic" if "cubic" in sender else "reno")
+
+
+def findings(frame: pd.DataFrame, reference: str) -> List[Finding]:
+    """What each limit finds in each cell that has its figures."""
+    figures, made = Figures(frame), []
+    for cell in cells_of(frame):
+        made += [*reno_on_fixed(figures, cell, reference), *cubic_losses(figures, cell, reference)]
+        made += list(orders(figures, cell, reference))
+    return made
+
+
+def reno_on_fixed(figures: Figures, cell: Any, reference: str) -> Iterator[Finding]:
+    """Reno on the fixed link: throughput, mean and 95th percentile of the wait."""
+    if cell[0] != "fixed" or not figures.has(reference, "reno", cell):
+        return
+    for sender in ("reno", "linux-reno"):
+        for name in RENO_FIGURES:
+            if figures.has("ccp", sender, cell):
+                ratio = figures.of("ccp", sender, cell, name) / figures.of(reference, "reno", cell, name)
+                percent = 100 * (ratio - 1)
+                limit = "Reno on `fixed`: %s within %d %%" % (name, RENO_PERCENT)
+                yield Finding(limit, cell, sender, "%+.1f %%" % percent, abs(percent) <= RENO_PERCENT)
+
+
+def cubic_losses(figures: Figures, cell: Any, reference: str) -> Iterator[Finding]:
+    """The losses of CUBIC with a sender like Linux's."""
+    is_meant = cell[0] in CUBIC_TRACES and cell[1] in CUBIC_QUEUES
+    if not is_meant or not (figures.has(reference, "cubic", cell) and figures.has("ccp", "linux-cubic", cell)):
+        return
+    own, other = (figures.of(*key, cell, "lost") for key in (("ccp", "linux-cubic"), (reference, "cubic")))
+    factor = max(own, other) / min(own, other) if min(own, other) else float("inf")
+    limit = "CUBIC's losses within a factor of %g" % CUBIC_FACTOR
+    yield Finding(limit, cell, "linux-cubic", "%.0f, %.0f" % (own, other), factor <= CUBIC_FACTOR)
+
+
+def orders(figures: Figures, cell: Any, reference: str) -> Iterator[Finding]:
+    """Which of Reno and CUBIC waits longer in the mean."""
+    name = "queueing_mean_ms"
+    if not all(figures.has(reference, sender, cell) for sender in PAIRS[0]):
+        return
+    theirs = [figures.of(reference, sender, cell, name) for sender in PAIRS[0]]
+    for pair in PAIRS:
+        if all(figures.has("ccp", sender, cell) for sender in pair):
+            ours = [figures.of("ccp", sender, cell, name) for sender in pair]
+            holds = (ours[0] < ours[1]) == (theirs[0] < theirs[1])
+            value = "%.1f, %.1f beside %.1f, %.1f" % (*ours, *theirs)
+            yield Finding("which of Reno and CUBIC waits longer", cell, " and ".join(pair), value, holds)

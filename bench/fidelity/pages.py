@@ -1,0 +1,154 @@
+"""The tables and pictures that are made of the figures."""
+
+from __future__ import annotations
+
+from pathlib import Path
+from typing import Any, Dict, Iterable, List, Mapping, Sequence, Tuple
+
+import pandas as pd
+from ccp_tools import plots
+from ccp_tools.errors import CcpError
+from ccp_tools.files import read_text
+from matplotlib.figure import Figure
+
+from .cases import ALGORITHMS, Outcome
+from .limits import Figures, Finding
+from .results import cells_of
+
+# the columns of a row, each a stack and, by the algorithm, its sender; those without figures have a -
+SENDERS: List[Tuple[str, str]] = [("ccp", "%s"), ("ccp", "linux-%s"), ("ns-3", "%s"), ("linux", "%s")]
+SHOWN = [("throughput_mbps", "%.2f"), ("lost", "%.0f"), ("queueing_mean_ms", "%.1f"), ("queueing_p95_ms", "%.0f")]
+HEADS = ["Mbit/s", "lost packets", "wait", "p95"]
+MARK = "<!-- made by bench/fidelity/run: %s -->"
+END = "<!-- end -->"
+LOOK = plots.Look("page")
+
+
+# ---- tables
+
+
+def value_text(figures: Figures, stack: str, sender: str, cell: Any, name: str, form: str) -> str:
+    """A figure, with its range over the runs where they differ as it is shown."""
+    if not figures.has(stack, sender, cell):
+        return "-"
+    value, least, most = (form % figures.of(stack, sender, cell, name + end) for end in ("", "_least", "_most"))
+    return value if least == most else "%s (%s to %s)" % (value, least, most)
+
+
+def table(heads: Sequence[str], rows: Iterable[Sequence[str]]) -> str:
+    """A table in Markdown."""
+    lines = [heads, ["---"] * len(heads), *rows]
+    return "".join("| %s |\n" % " | ".join(line) for line in lines)
+
+
+def grid(frame: pd.DataFrame, queues: Sequence[int] | None = None) -> str:
+    """The figures of each case, with some queues alone where they are given."""
+    figures, rows = Figures(frame), []
+    for cell in cells_of(frame):
+        if queues is not None and cell[1] not in queues:
+            continue
+        for algorithm in ALGORITHMS:
+            values = []
+            for name, form in SHOWN:
+                texts = [
+                    value_text(figures, stack, sender % algorithm, cell, name, form) for stack, sender in SENDERS
+                ]
+                values.append(" / ".join(texts))
+            rows.append([*map(str, cell), algorithm, *values])
+    return table(["trace", "queue", "ms", "sender", *HEADS], rows)
+
+
+def orders(found: Iterable[Finding]) -> str:
+    """The mean waits by which senders are ranked, a row a cell and pair."""
+    rows = [
+        [*map(str, one.cell), one.sender, one.value, "yes" if one.holds else "no"] for one in found if "waits" in one.limit
+    ]
+    return table(["trace", "queue", "ms", "senders", "wait: Reno, CUBIC", "same order"], rows)
+
+
+def limits(found: Sequence[Finding]) -> str:
+    """How many cells of each limit hold, and those that don't."""
+    rows = []
+    for limit, sender in dict.fromkeys((one.limit, one.sender) for one in found):
+        of_limit = [one for one in found if (one.limit, one.sender) == (limit, sender)]
+        broken = ["%s, %d packets, %d ms: %s" % (*one.cell, one.value) for one in of_limit if not one.holds]
+        count = "%d of %d" % (len(of_limit) - len(broken), len(of_limit))
+        rows.append([limit, "`%s`" % sender.replace(" and ", "` and `"), count, "; ".join(broken) or "-"])
+    return table(["Limit", "Sender", "Holds in", "Not in"], rows)
+
+
+def before_and_after(frame: pd.DataFrame) -> str:
+    """What the senders like Linux's change: the losses of CUBIC, and the waits of Reno on a varying link."""
+    figures, rows = Figures(frame), []
+    shown = [("fixed", "cubic", "lost"), ("wave", "cubic", "lost")]
+    shown += [("wave", "reno", "queueing_mean_ms"), ("wave", "reno", "queueing_p95_ms")]
+    heads, forms = dict(zip(map(first, SHOWN), HEADS)), dict(SHOWN)
+    for trace, algorithm, name in shown:
+        for cell in cells_of(frame):
+            if cell[0] == trace:
+                texts = [
+                    value_text(figures, stack, sender % algorithm, cell, name, forms[name]) for stack, sender in SENDERS
+                ]
+                rows.append([*map(str, cell), algorithm, heads[name], *texts])
+    own = ["built-in", "like Linux", "ns-3", "Linux"]
+    return table(["trace", "queue", "ms", "sender", "figure", *own], rows)
+
+
+def first(pair: Tuple[str, str]) -> str:
+    return pair[0]
+
+
+def sections(frame: pd.DataFrame, found: Sequence[Finding]) -> Dict[str, str]:
+    """The parts of pages that are made of the figures, by their names."""
+    made = {"grid": grid(frame, [100]), "limits": limits(found), "orders": orders(found)}
+    return {**made, "before and after": before_and_after(frame)}
+
+
+def with_sections(text: str, made: Mapping[str, str], place: str) -> str:
+    """A page whose parts between their marks are replaced. A page without a mark is a CcpError."""
+    names = [name for name in made if MARK % name in text]
+    if not names:
+        raise CcpError("%s: a line as %s is expected" % (place, MARK % next(iter(made))))
+    for name in names:
+        before, mark, rest = text.partition(MARK % name + "\n")
+        _, end, after = rest.partition(END)
+        if not end:
+            raise CcpError("%s: the line %s is expected after %s" % (place, END, MARK % name))
+        text = before + mark + made[name] + end + after
+    return text
+
+
+def write_page(path: Path, made: Mapping[str, str]) -> None:
+    """Writes the parts of a page that are made of the figures."""
+    path.write_text(with_sections(read_text(path), made, str(path)), encoding="utf-8")
+
+
+# ---- pictures
+
+
+def windows(outcomes: Sequence[Outcome], until_s: float | None = None) -> Figure:
+    """The congestion windows of the runs of one case over time."""
+    labels = [label_of(one) for one in outcomes]
+    keys = {label: plots.line_key(at) for at, label in enumerate(labels)}
+    for key in keys.values():
+        key.set_marker("")
+    sheet = plots.Sheet(LOOK, keys, [14.0])
+    figure = sheet.figure()
+    panel = sheet.axes[0]
+    for at, one in enumerate(outcomes):
+        panel.step(one.windows["seconds"], one.windows["segments"], where="post", **plots.line_look(at))
+    plots.stack(sheet, "time [s]")
+    end = until_s or min(one.acks["now"].iloc[-1] / 1e6 for one in outcomes)
+    most = max(one.windows["segments"][one.windows["seconds"] <= end].max() for one in outcomes)
+    panel.set(ylabel="window [segments]", xlim=(0, end), ylim=(0, 1.05 * most))
+    return figure
+
+
+def label_of(one: Outcome) -> str:
+    """What a run is called in a picture."""
+    return "%s, %s" % ({"linux": "Linux"}.get(one.stack, one.stack), one.sender)
+
+
+def draw(outcomes: Sequence[Outcome], path: Path, until_s: float | None = None) -> None:
+    """Draws the windows of the runs of one case to a file."""
+    plots.save(plots.drawn(LOOK, lambda: [windows(outcomes, until_s)]), path, LOOK)
