@@ -2,7 +2,7 @@ use Rattle.std.proofs.Common.{◌≡◌, ◌∙◌, ◌++◌, rules, ap}
 use Rattle.campaign_report.specs.BookText.{books_text}
 use Rattle.ccp_run.specs.Campaign.{frames_shown}
 use Rattle.ccp_run.specs.Shared.{link_line}
-use Rattle.ccp_run.proofs.modes.shared_series.parts_text.Goals as goal
+use Rattle.ccp_run.proofs.modes.shared_timeline.parts_text.Goals as goal
 
 pub returns : goal.returns
 returns c =

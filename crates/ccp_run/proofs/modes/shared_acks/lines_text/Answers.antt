@@ -1,7 +1,7 @@
 use Rattle.std.proofs.Common.{◌≡◌, ◌∙◌, ◌++◌, rules, ap}
 use Rattle.campaign_report.specs.AcksText.{acks_text}
 use Rattle.ccp_run.specs.Shared.{link_line}
-use Rattle.ccp_run.proofs.modes.shared_series.lines_text.Goals as goal
+use Rattle.ccp_run.proofs.modes.shared_acks.lines_text.Goals as goal
 
 pub returns : goal.returns
 returns c =

@@ -10,7 +10,7 @@ use Rattle.ccp_run.specs.Campaign.{case_agents}
 use Rattle.ccp_run.specs.Shared.{link_line}
 use Rattle.ccp_run.specs.SharedSeries.{source_flows}
 use Rattle.ccp_run.proofs.SharedLemmas.{flows-count}
-use Rattle.ccp_run.proofs.modes.shared_series.run_acks.Goals as goal
+use Rattle.ccp_run.proofs.modes.shared_acks.run_shared_acks.Goals as goal
 
 pub lines_text-requires-clause-within : goal.lines_text-requires-clause-within
 lines_text-requires-clause-within g c =

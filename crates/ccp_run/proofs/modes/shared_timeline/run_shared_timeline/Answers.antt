@@ -7,7 +7,7 @@ use Rattle.shared_run.specs.SharedHistory.{shared_counts}
 use Rattle.ccp_run.specs.Campaign.{frames_shown}
 use Rattle.ccp_run.specs.Shared.{link_line}
 use Rattle.ccp_run.specs.SharedSeries.{core_parts, source_flows}
-use Rattle.ccp_run.proofs.modes.shared_series.run_timeline.Goals as goal
+use Rattle.ccp_run.proofs.modes.shared_timeline.run_shared_timeline.Goals as goal
 
 pub returns-clause-text : goal.returns-clause-text
 returns-clause-text g c =
