@@ -122,6 +122,31 @@ def test_what_is_found_is_kept_by_the_times_of_files(place: Place) -> None:
     assert place.is_released() and calls.read_text() != first
 
 
+def test_an_unchanged_checkout_needs_one_search(place: Place) -> None:
+    """Beside the program a call of the launcher starts `find` alone, and for a page of help nothing."""
+    (place.room / "bin").mkdir()
+    wanted = ("%s check\n" % place.released, "", 0)
+    assert place.check() == wanted
+    script(place.room / "bin", "find", 'exec /usr/bin/find "$@"\n')
+    # which runs the stub of the program
+    shutil.copy("/bin/bash", place.room / "bin")
+    alone = {"PATH": str(place.room / "bin")}
+    assert place.check(**alone) == wanted
+    (place.room / "bin" / "find").unlink()
+    assert place.run("--help", **alone)[1:] == ("", 0)
+    assert place.run("campain", **alone).errors.startswith("ccp: words refused\nccp: campain is no mode (did you mean")
+
+
+def test_a_release_that_comes_back_is_seen(place: Place) -> None:
+    place.put(place.built)
+    os.utime(place.built, (1, 1))
+    assert place.is_released(), "the built program is older than its sources"
+    (place.top / "release").rename(place.room / "aside")
+    assert "no toolchain" in place.check().errors and "no toolchain" in place.check().errors
+    (place.room / "aside").rename(place.top / "release")
+    assert place.is_released()
+
+
 def test_an_older_find_takes_no_list(place: Place) -> None:
     (place.room / "bin").mkdir()
     text = 'case $1 in -files0-from) echo "find: unknown predicate" >&2; exit 1 ;; esac\nexec /usr/bin/find "$@"\n'
@@ -156,6 +181,9 @@ CHANGES = {
     "a source": lambda place: place.write("crates/base/specs/Base.antt", "changed\n"),
     "a source with its old time": change_in_place,
     "a new source": lambda place: place.write("crates/ccp/proofs/New.antt", "\n"),
+    "a renamed source": lambda place: (place.top / "crates/ccp/src/main.rt").rename(
+        place.top / "crates/ccp/src/other.rt"
+    ),
     "a removed source": lambda place: (place.top / "crates/base/specs/Base.antt").unlink(),
     "a removed folder": lambda place: shutil.rmtree(place.top / "crates/base/specs"),
     "a proof of a function out": lambda place: place.write("crates/base/proofs/out/Base.antt", "changed\n"),
@@ -266,7 +294,7 @@ def test_a_checkout_that_cannot_be_written(place: Place) -> None:
     place.cache.chmod(0o777)
     wanted = ("%s check\n" % place.released, "", 0)
     assert place.check(AS_USER="yes") == wanted and place.check(AS_USER="yes") == wanted
-    assert list(place.cache.glob("ccp/*/release")), "the finding is in the cache"
+    assert list(place.cache.glob("ccp/*/found")), "the finding is in the cache"
     ran = place.check(AS_USER="yes", XDG_CACHE_HOME="/proc")
     assert ran.output == wanted[0] and ran.status == 0
     assert ran.errors.count("\n") == 1 and "can't be written" in ran.errors and "XDG_CACHE_HOME=" in ran.errors
