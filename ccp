@@ -1,4 +1,4 @@
-#!/usr/bin/env bash
+#!/bin/bash
 # Runs ccp: `./ccp [OPTION].. MODE [FILE]..` runs a mode of the program, `./ccp COMMAND ..` a sub-command of the Python
 # package; see `./ccp --help`. Installed, it runs the program of PREFIX/libexec/ccp.
 #
@@ -23,10 +23,11 @@ if [ ! -d "$launcher" ]; then launcher=${here%/*}/libexec/ccp/launcher; fi
 if [ ! -d "$launcher" ]; then here=$(cd -P "$here" && pwd) launcher=${here%/*}/libexec/ccp/launcher; fi
 # shellcheck source=tools/launcher/tables.sh
 . "$launcher/tables.sh"
-# shellcheck source=tools/launcher/words.sh
-. "$launcher/words.sh"
 # shellcheck source=tools/launcher/run.sh
 . "$launcher/run.sh"
+if [[ " ${modes[*]} " == *" ${1-} "* ]]; then begin_search; fi
+# shellcheck source=tools/launcher/words.sh
+. "$launcher/words.sh"
 
 main() {
     if [ "${1-}" = --prove ]; then prove "${@:2}"; fi

@@ -9,7 +9,7 @@ import subprocess
 import tempfile
 import time
 from pathlib import Path
-from typing import Dict, Iterator, List
+from typing import Dict, Iterator, List, Tuple
 
 import pytest
 from support import EXAMPLES, REPOSITORY, Ran, script
@@ -122,6 +122,31 @@ def test_what_is_found_is_kept_by_the_times_of_files(place: Place) -> None:
     assert place.is_released() and calls.read_text() != first
 
 
+def test_an_unchanged_checkout_needs_one_search(place: Place) -> None:
+    """Beside the program a call of the launcher starts `find` alone, and for a page of help nothing."""
+    (place.room / "bin").mkdir()
+    wanted = ("%s check\n" % place.released, "", 0)
+    assert place.check() == wanted
+    script(place.room / "bin", "find", 'exec /usr/bin/find "$@"\n')
+    # which runs the stub of the program
+    shutil.copy("/bin/bash", place.room / "bin")
+    alone = {"PATH": str(place.room / "bin")}
+    assert place.check(**alone) == wanted
+    (place.room / "bin" / "find").unlink()
+    assert place.run("--help", **alone)[1:] == ("", 0)
+    assert place.run("campain", **alone).errors.startswith("ccp: words refused\nccp: campain is no mode (did you mean")
+
+
+def test_a_release_that_comes_back_is_seen(place: Place) -> None:
+    place.put(place.built)
+    os.utime(place.built, (1, 1))
+    assert place.is_released(), "the built program is older than its sources"
+    (place.top / "release").rename(place.room / "aside")
+    assert "no toolchain" in place.check().errors and "no toolchain" in place.check().errors
+    (place.room / "aside").rename(place.top / "release")
+    assert place.is_released()
+
+
 def test_an_older_find_takes_no_list(place: Place) -> None:
     (place.room / "bin").mkdir()
     text = 'case $1 in -files0-from) echo "find: unknown predicate" >&2; exit 1 ;; esac\nexec /usr/bin/find "$@"\n'
@@ -156,6 +181,9 @@ CHANGES = {
     "a source": lambda place: place.write("crates/base/specs/Base.antt", "changed\n"),
     "a source with its old time": change_in_place,
     "a new source": lambda place: place.write("crates/ccp/proofs/New.antt", "\n"),
+    "a renamed source": lambda place: (place.top / "crates/ccp/src/main.rt").rename(
+        place.top / "crates/ccp/src/other.rt"
+    ),
     "a removed source": lambda place: (place.top / "crates/base/specs/Base.antt").unlink(),
     "a removed folder": lambda place: shutil.rmtree(place.top / "crates/base/specs"),
     "a proof of a function out": lambda place: place.write("crates/base/proofs/out/Base.antt", "changed\n"),
@@ -266,7 +294,7 @@ def test_a_checkout_that_cannot_be_written(place: Place) -> None:
     place.cache.chmod(0o777)
     wanted = ("%s check\n" % place.released, "", 0)
     assert place.check(AS_USER="yes") == wanted and place.check(AS_USER="yes") == wanted
-    assert list(place.cache.glob("ccp/*/release")), "the finding is in the cache"
+    assert list(place.cache.glob("ccp/*/found")), "the finding is in the cache"
     ran = place.check(AS_USER="yes", XDG_CACHE_HOME="/proc")
     assert ran.output == wanted[0] and ran.status == 0
     assert ran.errors.count("\n") == 1 and "can't be written" in ran.errors and "XDG_CACHE_HOME=" in ran.errors
@@ -374,3 +402,97 @@ def test_each_example(clone: Path, line: str) -> None:
     expected = (REPOSITORY / line.split()[2]).with_suffix(".out")
     if expected.is_file() and line.split()[1] in ("campaign", "shared", "fold"):
         assert ran.output == expected.read_text(encoding="utf-8")
+
+
+# ---- the packages in an empty Debian
+
+DEBIAN = os.environ.get("CCP_DEBIAN", "")
+
+
+class Debian:
+    """An empty Debian of debootstrap in the folder that CCP_DEBIAN names, and the packages that tools/release has made
+    in dist/."""
+
+    def __init__(self) -> None:
+        self.top = Path(DEBIAN)
+        self.packages = {path.name.partition("_")[0]: path for path in (REPOSITORY / "dist").glob("ccp*.deb")}
+
+    def run(self, line: str) -> Ran:
+        """Runs a line of sh in it."""
+        env = {"PATH": "/usr/sbin:/usr/bin:/sbin:/bin", "DEBIAN_FRONTEND": "noninteractive", "LC_ALL": "C.UTF-8"}
+        done = subprocess.run(
+            ["chroot", str(self.top), "sh", "-c", line], input=b"", capture_output=True, env=env, check=False
+        )
+        return Ran(done.stdout.decode(), done.stderr.decode(), done.returncode)
+
+    def must(self, line: str) -> str:
+        """What a line prints that ends well."""
+        ran = self.run(line)
+        assert ran.status == 0, "%s: %s%s" % (line, ran.output, ran.errors)
+        return ran.output
+
+    def files(self) -> Dict[str, Tuple[int, int]]:
+        """What is there below the folder that the packages write to, each file with its length and its time."""
+        found = {}
+        for path in (self.top / "usr").rglob("*"):
+            state = path.lstat()
+            found[str(path)] = (0, 0) if path.is_dir() else (state.st_size, state.st_mtime_ns)
+        return found
+
+
+@pytest.fixture(scope="module")
+def debian() -> Iterator[Debian]:
+    at = Debian()
+    for name, path in at.packages.items():
+        shutil.copy(path, at.top / "tmp" / (name + ".deb"))
+    yield at
+    at.run("dpkg --purge ccp-tools ccp; rm -f /tmp/ccp.deb /tmp/ccp-tools.deb")
+
+
+in_debian = pytest.mark.skipif(not DEBIAN, reason="CCP_DEBIAN names no folder of debootstrap")
+
+
+@in_debian
+def test_the_packages_are_free_of_errors_of_lintian(debian: Debian) -> None:
+    assert set(debian.packages) == {"ccp", "ccp-tools"}, "tools/release makes them in dist/"
+    words = ["lintian", "--allow-root", "--tag-display-limit", "0", *map(str, debian.packages.values())]
+    done = subprocess.run(words, stdout=subprocess.PIPE, text=True)
+    assert done.returncode == 0 and "E: " not in done.stdout, done.stdout
+
+
+@in_debian
+def test_the_package_of_the_program(debian: Debian) -> None:
+    """It needs nothing that an empty Debian lacks, answers, and leaves nothing behind."""
+    before = debian.files()
+    debian.must("dpkg --install /tmp/ccp.deb")
+    assert debian.must("ccp --version").startswith("ccp ") and "\nprogram: proved with " in debian.must("ccp --version")
+    assert "\n  campaign " in debian.must("ccp --help")
+    examples = "/usr/share/doc/ccp/examples"
+    printed = debian.must("ccp campaign %s/campaign.json" % examples)
+    assert printed == (EXAMPLES / "campaign.out").read_text(encoding="utf-8")
+    assert debian.run("ccp bend")[0::2] == ("", 2) and "apt-get install ccp-tools" in debian.run("ccp compare x").errors
+    page = subprocess.run(
+        ["man", "-l", str(debian.top / "usr/share/man/man1/ccp.1.gz")], capture_output=True, text=True, check=True
+    )
+    assert "compare congestion control" in page.stdout and not page.stderr
+    shown = "COMP_WORDS=(ccp camp); COMP_CWORD=1; _ccp; echo $COMPREPLY"
+    assert debian.must("bash -c '. /usr/share/bash-completion/completions/ccp; %s'" % shown) == "campaign\n"
+    assert debian.must("head -n 1 /usr/share/zsh/vendor-completions/_ccp") == "#compdef ccp\n"
+    assert debian.must("dpkg --verify ccp") == ""
+    debian.must("dpkg --remove ccp")
+    assert debian.files() == before
+
+
+@in_debian
+def test_the_package_of_the_commands(debian: Debian) -> None:
+    """With what it depends on, which apt installs, a command answers; one that needs more names what to install."""
+    debian.must("apt-get install --yes --no-install-recommends python3")
+    before = debian.files()
+    debian.must("dpkg --install /tmp/ccp.deb /tmp/ccp-tools.deb")
+    scenario = "/usr/share/doc/ccp/examples/campaign.json"
+    assert debian.must("ccp campaign %s | ccp table" % scenario).startswith("case,agent,acks,")
+    assert debian.must("ccp help table").startswith("usage: ccp table")
+    refused = debian.run("ccp compare x")
+    assert refused.status == 1 and "apt-get install python3-pandas" in refused.errors
+    debian.must("dpkg --remove ccp-tools ccp")
+    assert debian.files() == before

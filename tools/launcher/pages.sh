@@ -3,6 +3,8 @@
 
 # Prints the page that the words ask for, and ends.
 show_page() {
+    # shellcheck source=tools/launcher/texts.sh
+    . "$launcher/texts.sh"
     case $page in
         help) page_of_help ;;
         mode) page_of_mode "$named" ;;
@@ -34,16 +36,14 @@ page_of_options() {
 }
 
 page_of_help() {
-    local row name reads text page example means statuses=()
-    cat <<END_OF_PAGE
-ccp [OPTION].. MODE [FILE]..
+    local row name reads text page example means statuses=() joined
+    printf '%s\n' 'ccp [OPTION].. MODE [FILE]..
 ccp COMMAND [ARGUMENT]..
 
 Compares congestion-control programs over recorded link traces: compiles them, verifies them, and runs them over virtual
 links with agents such as Reno and CUBIC. Input comes from FILE, or from standard input if there is none.
 
-Commands, from traces to figures (Python):
-END_OF_PAGE
+Commands, from traces to figures (Python):'
     for row in "${command_rows[@]}"; do
         IFS=$'\t' read -r name text <<< "$row"
         printf '  %-9s %s\n' "$name" "$text"
@@ -59,8 +59,8 @@ END_OF_PAGE
         IFS=$'\t' read -r name means <<< "$row"
         statuses+=("$name $means")
     done
-    cat <<END_OF_PAGE
-
+    join_by ', ' "${statuses[@]}"
+    printf '%s\n' "
   fold PROGRAM ACKS and audit SCENARIO TEXT take two FILEs, which are joined by the line ---.
   MODE --help      what a mode reads and prints, and its options
   COMMAND --help   what a command does, and its arguments
@@ -68,9 +68,8 @@ END_OF_PAGE
   --prove          proves and builds the program; until then that of release/ answers, or an unproved, checked run
   CCP_PROGRAM=PATH names another program, and CCP_PYTHON=PATH another interpreter of Python
 
-Exit status of a mode: $(joined_by ', ' "${statuses[@]}").
-More: man ccp (in the repository man -l docs/ccp.1), README.md and docs/.
-END_OF_PAGE
+Exit status of a mode: $joined.
+More: man ccp (in the repository man -l docs/ccp.1), README.md and docs/."
 }
 
 # The page of one mode.
@@ -101,16 +100,18 @@ page_of_version() {
 
 # Which program would run in this checkout, and why.
 version_of_checkout() {
+    begin_search
     name_of_version
     if [ -n "${CCP_PROGRAM:-}" ]; then
         echo "program: $CCP_PROGRAM, by CCP_PROGRAM"
-    elif is_current "$proved" "$kept/ccp"; then
-        echo "program: crates/ccp/out/ccp, $(proof_of "$proved"), and no source is newer"
-    elif is_released; then
-        echo "program: release/ccp, $(proof_of "$released"), of the sources that this checkout has"
-    else
-        echo "program: not proved: the unproved one, compiled with checks$(why_unproved); $called --prove proves and builds it"
+        return
     fi
+    find_proved
+    case $finding in
+        built) echo "program: crates/ccp/out/ccp, proved with $(toolchain_of_built), and no source is newer" ;;
+        same) echo "program: release/ccp, proved with $(toolchain_of_release), of the sources that this checkout has" ;;
+        *) echo "program: not proved: the unproved one, compiled with checks$(why_unproved); $called --prove proves and builds it" ;;
+    esac
 }
 
 why_unproved() {
@@ -133,18 +134,28 @@ name_of_version() {
 
 # By which toolchain the program $1 was proved: $1 is that of this checkout, or has its bytes.
 proof_of() {
-    local record=$proved.toolchain
-    if is_same "$1" "$proved" && is_current "$proved" "$kept/ccp"; then
-        if [ -e "$record" ] && [ ! "$record" -ot "$proved" ]; then
-            echo "proved with $(cat "$record")"
-        else
-            echo "proved with $(rt version 2>/dev/null || echo 'a toolchain that is not here')"
-        fi
+    if is_same "$1" "$proved" && is_current "$proved"; then
+        echo "proved with $(toolchain_of_built)"
     elif is_same "$1" "$released" && is_released; then
-        echo "proved with $(sed -n 's/^toolchain: //p' "$here/release/PROVENANCE")"
+        echo "proved with $(toolchain_of_release)"
     else
         echo 'of which no proof is known here'
     fi
+}
+
+toolchain_of_built() {
+    local record=$proved.toolchain
+    if [ -e "$record" ] && [ ! "$record" -ot "$proved" ]; then
+        cat "$record"
+    else
+        rt version 2>/dev/null || echo 'a toolchain that is not here'
+    fi
+}
+
+toolchain_of_release() {
+    # shellcheck source=tools/launcher/finding.sh
+    . "$launcher/finding.sh"
+    of_provenance toolchain
 }
 
 is_same() {

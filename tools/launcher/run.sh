@@ -11,30 +11,19 @@ if [ -d "$here/crates" ] && { [ ! -w "$here/crates/ccp" ] || { [ -e "$kept" ] &&
 fi
 # the unproved program, compiled with checks
 checked=$kept/checked/ccp
-installed=${launcher-$here/tools/launcher}
-installed=${installed%/launcher}/ccp
+launcher=${launcher-$here/tools/launcher}
+installed=${launcher%/launcher}/ccp
+# what is known of the proved programs, and where the search for changes since then is read, once it is begun
+known=$kept/found search=''
 
 fail() {
     printf 'ccp: %s\n' "$1" >&2
     exit 1
 }
 
-# Whether the program $1 is there, and no source is newer. What is found is kept beside the program, by the times of files:
-# $2.sources has the folders and sources that were looked at, and $2.newer a source that is newer.
+# Whether the program $1 is there, and no source is newer.
 is_current() {
-    local state=${2:-$1} newer
-    [ -x "$1" ] || return 1
-    if [ -e "$state.newer" ] && read -r newer < "$state.newer" && [ "$newer" -nt "$1" ]; then return 1; fi
-    if [ "$state.sources" -nt "$1" ]; then
-        # what changed after the list was made, or can't be looked at
-        # shellcheck disable=SC2185
-        newer=$(cd "$here/crates" && exec find -files0-from "$state.sources" -maxdepth 0 -newer "$state.sources" -print -quit 2>&1)
-        if [ -z "$newer" ]; then return 0; fi
-    fi
-    newer=$(newer_source "$1")
-    if [ -z "$newer" ]; then keep_sources "$state"; fi
-    if [ -n "$newer" ] && [ -w "${state%/*}" ]; then printf '%s\n' "$newer" > "$state.newer"; fi
-    [ -z "$newer" ]
+    [ -x "$1" ] && [ -z "$(newer_source "$1")" ]
 }
 
 # A source that is newer than the program $1. Of the folders named `out` only a crate's own is left out: the proofs of a
@@ -44,16 +33,49 @@ newer_source() {
         -type f \( -name '*.rt' -o -name '*.antt' -o -name crates.txt \) -newer "$1" -print -quit
 }
 
-# Writes the list of folders and sources $1.sources, with the time at which it was begun.
-keep_sources() {
-    if [ ! -w "${1%/*}" ]; then return; fi
-    rm -f "$1.newer"
-    : > "$1.begun"
-    # paths from the folder of the crates, which are looked at faster
-    (cd "$here/crates" && find ../crates.txt . -path './*/out' ! -path './*/*/out' -prune -o \
-        \( -type d -o -name '*.rt' -o -name '*.antt' -o -name crates.txt \) -print0) > "$1.new" \
-        && touch -r "$1.begun" "$1.new" && mv "$1.new" "$1.sources"
-    rm -f "$1.begun"
+# Begins to look for what changed since it was found which program is proved. The search has a process of its own, since
+# it takes longer than all else that is done meanwhile.
+begin_search() {
+    if [ -n "${CCP_PROGRAM:-}" ] || [ ! -e "$known" ]; then return; fi
+    # shellcheck disable=SC2185
+    exec {search}< <(cd "$here/crates" && LC_ALL=C exec find -files0-from "$known.sources" -maxdepth 0 -cnewer "$known" -print -quit 2>&1)
+}
+
+# Sets `finding` to what proved program there is of the sources of this checkout (finding.sh). What was found before holds
+# where nothing changed since then.
+find_proved() {
+    local changed=unknown is_there=$HOSTTYPE was_there
+    if [ -e "$proved" ]; then is_there+=' built'; fi
+    if [ -e "$here/release" ]; then is_there+=' release'; fi
+    if [ -z "$search" ]; then begin_search; fi
+    if [ -n "$search" ]; then
+        IFS= read -r -d '' changed <&"$search" || :
+        exec {search}<&-
+        search=''
+        if [ -n "$changed" ]; then
+            # shellcheck source=tools/launcher/finding.sh
+            . "$launcher/finding.sh"
+            if is_unchanged; then changed=''; fi
+        fi
+    fi
+    if [ -z "$changed" ] && { read -r was_there && read -r finding; } < "$known" && [ "$is_there" = "$was_there" ]; then return; fi
+    # shellcheck source=tools/launcher/finding.sh
+    . "$launcher/finding.sh"
+    find_anew
+}
+
+# Whether release/ has the program of these sources, in a good state, whatever was built here. Sets `finding`.
+is_released() {
+    # shellcheck source=tools/launcher/finding.sh
+    . "$launcher/finding.sh"
+    find_proved
+    if [ "$finding" = built ]; then judge_release; fi
+    [ "$finding" = same ]
+}
+
+# Prints what is wrong with the program in release/ and what to do, if it is in a bad state.
+print_bad_release() {
+    if [ "${finding%% *}" = bad ]; then printf 'ccp: %s\n' "${finding#bad }" >&2; fi
 }
 
 # Sets `chosen` to the program that runs, and `is_proved` if it is no unproved one.
@@ -67,27 +89,17 @@ choose_program() {
     elif [ ! -d "$here/crates" ]; then
         chosen=$installed
         if [ ! -x "$chosen" ]; then fail "there is no program at $chosen; CCP_PROGRAM=PATH names another"; fi
-    elif is_current "$proved" "$kept/ccp"; then
-        chosen=$proved
-    elif is_released; then
-        chosen=$released
     else
-        is_proved='' chosen=$checked
-        tell_bad_release
+        find_proved
+        case $finding in
+            built) chosen=$proved ;;
+            same) chosen=$released ;;
+            *)
+                is_proved='' chosen=$checked
+                print_bad_release
+                ;;
+        esac
     fi
-}
-
-# Whether release/ has the program of these sources, in a good state. Sets `finding`.
-is_released() {
-    # shellcheck source=/dev/null
-    . "${launcher-$here/tools/launcher}/release.sh"
-    find_release
-    [ "$finding" = same ]
-}
-
-# Says what is wrong with the program in release/ and what to do, if it is in a bad state.
-tell_bad_release() {
-    if [ "${finding%% *}" = bad ]; then printf 'ccp: %s\n' "${finding#bad }" >&2; fi
 }
 
 prove() {
@@ -101,9 +113,25 @@ set_words() {
     local processors
     words=("${options[@]}" "$mode")
     if [[ $mode != shared* && " ${options[*]}" != *" --workers="* ]] && uses_option "$mode" workers; then
-        processors=$(nproc)
+        count_processors
         words=("--workers=$((processors < 32 ? processors : 32))" "${words[@]}")
     fi
+}
+
+# Sets `processors` to how many this process may use. The kernel's mask of them is read here, since `nproc` would cost as
+# much time as the program.
+count_processors() {
+    local line lines mask='' digit ones=0112122312232334
+    mapfile -t lines 2>/dev/null < /proc/self/status
+    for line in "${lines[@]}"; do
+        if [ "${line%%:*}" = Cpus_allowed ]; then mask=${line##*[[:blank:]]}; fi
+    done
+    processors=0
+    while [ -n "$mask" ]; do
+        digit=${mask:0:1} mask=${mask:1}
+        if [ "$digit" != , ]; then processors=$((processors + ${ones:16#$digit:1})); fi
+    done
+    if [ "$processors" = 0 ]; then processors=$(nproc); fi
 }
 
 # Runs the mode, and ends with the program's status.
@@ -120,6 +148,8 @@ run_mode() {
         if [ "${files[0]--}" != - ]; then exec < "${files[0]}"; fi
         exec "$chosen" "${words[@]}"
     fi
+    # shellcheck source=tools/launcher/beside.sh
+    . "$launcher/beside.sh"
     run_beside "$chosen"
     exit "$status"
 }
@@ -134,121 +164,3 @@ input_of_files() {
     fi
 }
 
-# Runs the program $1 beside this shell, prints its error line, and sets `status`. At a terminal the seconds of a long run
-# are counted, except where what is typed is the input, and in `feed`, whose user answers.
-run_beside() {
-    local input errors output child counter='' filter='' interrupted='' begun=$SECONDS
-    if [ ${#files[@]} -gt 1 ]; then
-        exec {input}< <(input_of_files)
-    elif [ "${files[0]--}" != - ]; then
-        exec {input}< "${files[0]}"
-    else
-        exec {input}<&0
-    fi
-    if [ -t 2 ] && [ ! -t "$input" ] && [ "$mode" != feed ]; then
-        count_seconds &
-        counter=$!
-    fi
-    if [ -n "$counter" ] && [ -t 1 ]; then
-        exec {output}> >(pass_on "$counter")
-        filter=$!
-    else
-        exec {output}>&1
-    fi
-    # an interrupt that comes before the program's number is known ends it as soon as it is
-    trap 'interrupted=130' INT
-    trap 'interrupted=143' TERM HUP
-    # the program's line is held until it has ended
-    exec {errors}< <(exec 2>&1 >&"$output" <&"$input"; exec "$1" "${words[@]}")
-    child=$!
-    exec {input}<&- {output}>&-
-    trap 'stop_program "$child" "$counter" 130' INT
-    trap 'stop_program "$child" "$counter" 143' TERM HUP
-    if [ -n "$interrupted" ]; then stop_program "$child" "$counter" "$interrupted"; fi
-    wait "$child"
-    status=$?
-    if [ -n "$filter" ]; then wait_for "$filter"; else stop_counter "$counter"; fi
-    trap - INT TERM HUP
-    IFS= read -r -d '' error_line <&"$errors"
-    print_errors
-}
-
-# Waits for a substitution, which may not be the last one.
-wait_for() {
-    local never
-    exec {never}<> <(:)
-    while kill -0 "$1" 2>/dev/null; do read -rt 0.02 -u "$never"; done
-    exec {never}>&-
-}
-
-# Ends a run that is interrupted, with the status $3.
-stop_program() {
-    kill "$1" 2>/dev/null
-    wait "$1"
-    stop_counter "$2"
-    exit "$3"
-}
-
-# Counts the seconds of a run on standard error, from the third one on. A pager, which has the terminal for itself, isn't
-# written over.
-count_seconds() {
-    local never
-    exec {never}<> <(:)
-    while kill -0 $$ 2>/dev/null; do
-        read -rt 1 -u "$never"
-        if [ $((SECONDS - begun)) -ge 3 ] && [[ $(stty -a <&2 2>/dev/null) != *-icanon* ]]; then
-            printf '\r\033[Kccp: %s, %s s' "$mode" $((SECONDS - begun)) >&2
-        fi
-    done
-}
-
-stop_counter() {
-    if [ -z "$1" ] || ! kill "$1" 2>/dev/null; then return; fi
-    { wait "$1"; } 2>/dev/null
-    wipe_seconds
-}
-
-# Wipes the line of seconds, where one may have been printed since `begun`.
-wipe_seconds() {
-    if [ $((SECONDS - begun)) -ge 3 ] && [[ $(stty -a <&2 2>/dev/null) != *-icanon* ]]; then printf '\r\033[K' >&2; fi
-}
-
-# Passes the output on to the terminal; the counter $1 ends when it begins.
-pass_on() {
-    local line
-    if IFS= read -r line; then line+=$'\n'; fi
-    kill "$1" 2>/dev/null
-    wipe_seconds
-    printf %s "$line"
-    exec cat
-}
-
-# Prints the program's error line. A closed pipe ends silently, as that of any filter. At a terminal a refusal names the
-# FILE, and a second line says what explains it; elsewhere the program's line stands alone, as the pages show it.
-print_errors() {
-    if [ "$status" = 5 ] && { [ -p /dev/stdout ] || [ -S /dev/stdout ]; }; then
-        status=141
-        return
-    fi
-    if [ "$status" = 3 ] && [ -t 2 ]; then
-        if [ ${#files[@]} = 1 ] && [ "${files[0]}" != - ]; then error_line="ccp: ${files[0]}: ${error_line#ccp: }"; fi
-        case ${kind_of[$mode]} in
-            feed | nothing) ;;
-            *) error_line+="ccp: $(words_of_explain) says what is wrong, where, and what is accepted"$'\n' ;;
-        esac
-    fi
-    printf %s "$error_line" >&2
-}
-
-# The command that explains a refusal of this input.
-words_of_explain() {
-    local explain="$called explain --for $mode" line_end=''
-    if [ ${#files[@]} -gt 1 ]; then
-        if [ -n "$(tail -c 1 -- "${files[0]}")" ]; then line_end='echo; '; fi
-        printf '(cat %q; %secho ---; cat %q) | %s' "${files[0]}" "$line_end" "${files[1]}" "$explain"
-    elif [ "${files[0]--}" = - ]; then
-        printf '%s FILE' "$explain"
-    else
-        printf '%s %q' "$explain" "${files[0]}"
-    fi
-}

@@ -5,12 +5,11 @@
 #
 # It sets `mode`, `options` (as the program takes them), `files`, and `page`; and `wrong` to what is refused.
 
+# Whether the word $1 is one of the words $2.., which have no blanks.
 is_one_of() {
-    local one
-    for one in "${@:2}"; do
-        if [ "$one" = "$1" ]; then return 0; fi
-    done
-    return 1
+    local word=$1
+    shift
+    [[ $word != *' '* && " $* " == *" $word "* ]]
 }
 
 # Whether a text is a whole number from $2 to $3: digits, with a + and leading zeros if you like.
@@ -26,19 +25,38 @@ uses_option() {
     [[ " ${options_of[$1]} " == *" $2 "* ]]
 }
 
+# Sets `joined` to the words $2.. with $1 between them.
+join_by() {
+    local between=$1
+    joined=${2-}
+    shift 2
+    if [ $# -gt 0 ]; then
+        printf -v between "${between//%/%%}%s" "$@"
+        joined+=$between
+    fi
+}
+
+# Sets `wrong` to what is said of a word that is no mode, of one that is no option, or prints it and ends.
+refuse_mode() { load_refusals && refuse_mode "$@"; }
+refuse_option() { load_refusals && refuse_option "$@"; }
+refuse_words() { load_refusals && refuse_words; }
+
+# Puts the functions of refusals.sh in the place of these three, which most calls don't need.
+load_refusals() {
+    # shellcheck source=tools/launcher/refusals.sh
+    . "$launcher/refusals.sh"
+}
+
 # Reads the option $1, whose value is $2 if it was written with one, and else the first of `following`.
 # Sets `taken` to how many of the following words it takes, and `wrong` to what is refused.
 read_option() {
-    local name=${1#--} row one least='' greatest most value written
+    local name=${1#--} row least='' most value written
     taken=0
     for row in "${option_rows[@]}"; do
-        IFS=$'\t' read -r one least greatest _ <<< "$row"
-        if [ "$name" = "$one" ]; then most=$greatest; break; fi
-        least=''
+        if [ "$name" = "${row%%$'\t'*}" ]; then IFS=$'\t' read -r _ least most _ <<< "$row"; fi
     done
     if [ -z "$least" ]; then
-        wrong="$1 is no option$(meant "$1" "${option_names[@]}" --help --version --prove): the options are $(joined_by ', ' "${option_names[@]}")"
-        if [ "$1" = --prove ]; then wrong='--prove comes first, and without a mode'; fi
+        refuse_option "$1"
     elif [[ $given == *" $name "* ]]; then
         wrong="$1 is given twice: each option may be given once"
     elif [ "$least" = - ]; then
@@ -61,7 +79,7 @@ read_place() {
     local taken_files
     if [ -z "$mode" ]; then
         mode=$1
-        is_one_of "$1" "${modes[@]}" || wrong=$(no_mode "$1")
+        is_one_of "$1" "${modes[@]}" || refuse_mode "$1"
     elif [ -z "$1" ]; then
         wrong='an empty word is no option and no FILE'
     elif [ "$1" != - ] && [ ! -e "$1" ]; then
@@ -72,56 +90,14 @@ read_place() {
         wrong="$1 can't be read"
     else
         files+=("$1")
-        read -ra taken_files <<< "${files_of[$mode]}"
+        # shellcheck disable=SC2206
+        taken_files=(${files_of[$mode]})
         if [ ${#files[@]} -gt ${#taken_files[@]} ]; then
             wrong="$1 is one FILE too many: $mode takes ${#taken_files[@]}"
             wrong=${wrong/%takes 0/takes none}
         fi
     fi
     [ -z "$wrong" ]
-}
-
-no_mode() {
-    printf '%s is no mode%s: ' "${1:-the empty word}" "$(meant "$1" "${modes[@]}" "${commands[@]}")"
-    printf 'the modes are %s' "$(joined_by ', ' "${modes[@]}")"
-    printf ', and the commands %s' "$(joined_by ', ' "${commands[@]}")"
-}
-
-joined_by() {
-    local between=$1 text=$2
-    shift 2
-    if [ $# -gt 0 ]; then text+=$(printf "$between%s" "$@"); fi
-    printf '%s' "$text"
-}
-
-# Which of the words $2.. was perhaps meant by $1: one that differs by at most two letters, and by less than half of them.
-meant() {
-    local one best='' least=3 distance
-    if [ ${#1} -gt 20 ]; then return; fi
-    for one in "${@:2}"; do
-        measure_distance "$1" "$one"
-        if [ "$distance" -lt "$least" ] && [ $((2 * distance)) -lt ${#one} ]; then best=$one least=$distance; fi
-    done
-    if [ -n "$best" ]; then printf ' (did you mean %s?)' "$best"; fi
-}
-
-# Sets `distance` to how many letters have to be changed, put in or left out to make $2 of $1.
-measure_distance() {
-    local i j above corner cost row=()
-    for ((j = 0; j <= ${#2}; j++)); do row[j]=$j; done
-    for ((i = 1; i <= ${#1}; i++)); do
-        corner=${row[0]}
-        row[0]=$i
-        for ((j = 1; j <= ${#2}; j++)); do
-            above=${row[j]}
-            if [ "${1:i-1:1}" = "${2:j-1:1}" ]; then cost=$corner; else cost=$((corner + 1)); fi
-            if [ $((above + 1)) -lt "$cost" ]; then cost=$((above + 1)); fi
-            if [ $((row[j - 1] + 1)) -lt "$cost" ]; then cost=$((row[j - 1] + 1)); fi
-            row[j]=$cost
-            corner=$above
-        done
-    done
-    distance=${row[${#2}]}
 }
 
 # Reads the words: sets `mode`, `options` and `files`, or `wrong`.
@@ -139,14 +115,11 @@ read_words() {
         else read_place "$word" || return 1
         fi
     done
-    if [ -z "$mode" ]; then wrong="the mode is missing: the modes are $(joined_by ', ' "${modes[@]}")"; fi
+    if [ -z "$mode" ]; then
+        join_by ', ' "${modes[@]}"
+        wrong="the mode is missing: the modes are $joined"
+    fi
     [ -z "$wrong" ]
-}
-
-# Ends as the program does at refused words, with its line, and with a second one that names the word and what is accepted.
-refuse_words() {
-    printf 'ccp: words refused\nccp: %s (%s --help)\n' "$wrong" "$called" >&2
-    exit 2
 }
 
 # Sets `page` to what page the words ask for, if they do: `help`, `mode` (the help of one mode), `command` (that of a
@@ -175,7 +148,7 @@ read_page_word() {
     if is_one_of "$1" "${modes[@]}" || { [ "$2" = help ] && is_one_of "$1" "${commands[@]}"; }; then
         named=${named:-$1}
     elif [ "$2" = help ]; then
-        wrong=$(no_mode "$1")
+        refuse_mode "$1"
     fi
 }
 
@@ -185,5 +158,3 @@ if [ -d "$here/tools/launcher" ]; then
 else
     called=ccp
 fi
-option_names=()
-for row in "${option_rows[@]}"; do option_names+=("--${row%%$'\t'*}"); done

@@ -1,0 +1,121 @@
+# shellcheck shell=bash disable=SC2154,SC2034
+# Runs the program beside the launcher, where something is left to say after it: at a terminal, and where its output is a pipe.
+
+# Runs the program $1 beside this shell, prints its error line, and sets `status`. At a terminal the seconds of a long run
+# are counted, except where what is typed is the input, and in `feed`, whose user answers.
+run_beside() {
+    local input errors output child counter='' filter='' interrupted='' begun=$SECONDS
+    if [ ${#files[@]} -gt 1 ]; then
+        exec {input}< <(input_of_files)
+    elif [ "${files[0]--}" != - ]; then
+        exec {input}< "${files[0]}"
+    else
+        exec {input}<&0
+    fi
+    if [ -t 2 ] && [ ! -t "$input" ] && [ "$mode" != feed ]; then
+        count_seconds &
+        counter=$!
+    fi
+    if [ -n "$counter" ] && [ -t 1 ]; then
+        exec {output}> >(pass_on "$counter")
+        filter=$!
+    else
+        exec {output}>&1
+    fi
+    # an interrupt that comes before the program's number is known ends it as soon as it is
+    trap 'interrupted=130' INT
+    trap 'interrupted=143' TERM HUP
+    # the program's line is held until it has ended
+    exec {errors}< <(exec 2>&1 >&"$output" <&"$input"; exec "$1" "${words[@]}")
+    child=$!
+    exec {input}<&- {output}>&-
+    trap 'stop_program "$child" "$counter" 130' INT
+    trap 'stop_program "$child" "$counter" 143' TERM HUP
+    if [ -n "$interrupted" ]; then stop_program "$child" "$counter" "$interrupted"; fi
+    wait "$child"
+    status=$?
+    if [ -n "$filter" ]; then wait_for "$filter"; else stop_counter "$counter"; fi
+    trap - INT TERM HUP
+    IFS= read -r -d '' error_line <&"$errors"
+    print_errors
+}
+
+# Waits for a substitution, which may not be the last one.
+wait_for() {
+    local never
+    exec {never}<> <(:)
+    while kill -0 "$1" 2>/dev/null; do read -rt 0.02 -u "$never"; done
+    exec {never}>&-
+}
+
+# Ends a run that is interrupted, with the status $3.
+stop_program() {
+    kill "$1" 2>/dev/null
+    wait "$1"
+    stop_counter "$2"
+    exit "$3"
+}
+
+# Counts the seconds of a run on standard error, from the third one on. A pager, which has the terminal for itself, isn't
+# written over.
+count_seconds() {
+    local never
+    exec {never}<> <(:)
+    while kill -0 $$ 2>/dev/null; do
+        read -rt 1 -u "$never"
+        if [ $((SECONDS - begun)) -ge 3 ] && [[ $(stty -a <&2 2>/dev/null) != *-icanon* ]]; then
+            printf '\r\033[Kccp: %s, %s s' "$mode" $((SECONDS - begun)) >&2
+        fi
+    done
+}
+
+stop_counter() {
+    if [ -z "$1" ] || ! kill "$1" 2>/dev/null; then return; fi
+    { wait "$1"; } 2>/dev/null
+    wipe_seconds
+}
+
+# Wipes the line of seconds, where one may have been printed since `begun`.
+wipe_seconds() {
+    if [ $((SECONDS - begun)) -ge 3 ] && [[ $(stty -a <&2 2>/dev/null) != *-icanon* ]]; then printf '\r\033[K' >&2; fi
+}
+
+# Passes the output on to the terminal; the counter $1 ends when it begins.
+pass_on() {
+    local line
+    if IFS= read -r line; then line+=$'\n'; fi
+    kill "$1" 2>/dev/null
+    wipe_seconds
+    printf %s "$line"
+    exec cat
+}
+
+# Prints the program's error line. A closed pipe ends silently, as that of any filter. At a terminal a refusal names the
+# FILE, and a second line says what explains it; elsewhere the program's line stands alone, as the pages show it.
+print_errors() {
+    if [ "$status" = 5 ] && { [ -p /dev/stdout ] || [ -S /dev/stdout ]; }; then
+        status=141
+        return
+    fi
+    if [ "$status" = 3 ] && [ -t 2 ]; then
+        if [ ${#files[@]} = 1 ] && [ "${files[0]}" != - ]; then error_line="ccp: ${files[0]}: ${error_line#ccp: }"; fi
+        case ${kind_of[$mode]} in
+            feed | nothing) ;;
+            *) error_line+="ccp: $(words_of_explain) says what is wrong, where, and what is accepted"$'\n' ;;
+        esac
+    fi
+    printf %s "$error_line" >&2
+}
+
+# The command that explains a refusal of this input.
+words_of_explain() {
+    local explain="$called explain --for $mode" line_end=''
+    if [ ${#files[@]} -gt 1 ]; then
+        if [ -n "$(tail -c 1 -- "${files[0]}")" ]; then line_end='echo; '; fi
+        printf '(cat %q; %secho ---; cat %q) | %s' "${files[0]}" "$line_end" "${files[1]}" "$explain"
+    elif [ "${files[0]--}" = - ]; then
+        printf '%s FILE' "$explain"
+    else
+        printf '%s %q' "$explain" "${files[0]}"
+    fi
+}
