@@ -2,8 +2,8 @@
 
 It needs Linux, root, `ip` (iproute2), /dev/net/tun and a C++ compiler. An emulator in real time is as good as the
 machine is idle: each run keeps how late packets left, and a run that was late is made again. On `train`, where the
-kernel takes back the cut of its timer after a gap, Reno had 16.0 Mbit/s in runs that were 0.1 ms late in the mean, 14.6 in one
-of 3 ms, and 10.9 in one of 12 ms (a queue of 100 packets, 20 ms)."""
+kernel takes back the cut of its timer after a gap, Reno had 16.0 Mbit/s in runs that were 0.1 ms late in the mean,
+14.6 in one of 3 ms, and 10.9 in one of 12 ms (a queue of 100 packets, 20 ms)."""
 
 from __future__ import annotations
 

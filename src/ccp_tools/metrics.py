@@ -323,8 +323,8 @@ def figures_of_orders(
     with so many small changes of queue and delays.
 
     A row for each flow of each run, those of a run in the order of the scenario: the columns of `figures`, and `run`
-    from 1, the flow's `place` in the run's order from 1, and `change`, 0 where nothing is changed. `path` is that of the
-    program. Errors: CcpError where the scenario isn't one of `shared`, or has too many orders."""
+    from 1, the flow's `place` in the run's order from 1, and `change`, 0 where nothing is changed. `path` is that of
+    the program. Errors: CcpError where the scenario isn't one of `shared`, or has too many orders."""
     made = []
     for run, table in orders.tables_of(orders.runs_of(dict(scenario), count, changes), path):
         flows = range(len(run.order))

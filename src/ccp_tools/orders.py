@@ -1,8 +1,8 @@
 """Flows that share a link, in several orders of the scenario and with small changes of queue and delays.
 
 Flows of `shared` take turns in the order of the scenario, and queue and delays decide which of them finds the last
-place of the queue. So a share of one run is one sample (docs/shared.md). `ccp metrics --orders` makes all runs, and averages
-over them.
+place of the queue. So a share of one run is one sample (docs/shared.md). `ccp metrics --orders` makes all runs, and
+averages over them.
 
 Equal arguments give equal runs on every machine."""
 

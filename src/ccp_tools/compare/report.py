@@ -228,7 +228,7 @@ def summary(rows: Sequence[Row], by: Sequence[str]) -> str:
 
 
 def marks_of(frame: pd.DataFrame) -> Tuple[List[str], List[float]]:
-    """What the rows of the figures are of, and the shares of their losses that are slow start's, over seeds the mean."""
+    """What the figures are of, and which share of the losses is slow start's, over seeds in the mean."""
     place = ["%s on %s" % pair for pair in zip(frame["sender"], frame["trace"])]
     means = frame[slow_start.FIGURE].groupby(place, sort=False).mean()
     return list(means.index), list(means)
