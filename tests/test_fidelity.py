@@ -153,7 +153,9 @@ def test_page_is_made_of_kept_figures(name):
 
 def test_page_needs_its_marks():
     mark = pages.MARK % "grid"
-    assert pages.with_sections("a\n%s\nold\n%s\nb\n" % (mark, pages.END), {"grid": "new\n"}, "x") == "a\n%s\nnew\n%s\nb\n" % (
+    assert pages.with_sections(
+        "a\n%s\nold\n%s\nb\n" % (mark, pages.END), {"grid": "new\n"}, "x"
+    ) == "a\n%s\nnew\n%s\nb\n" % (
         mark,
         pages.END,
     )

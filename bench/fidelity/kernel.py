@@ -1,7 +1,9 @@
 """The cases by the TCP of this machine's kernel: two network namespaces, with an emulated link between them.
 
 It needs Linux, root, `ip` (iproute2), /dev/net/tun and a C++ compiler. An emulator in real time is as good as the
-machine is idle: each run keeps how late packets left."""
+machine is idle: each run keeps how late packets left, and a run that was late is made again. On `train`, where the
+kernel takes back the cut of its timer after a gap, Reno had 16.0 Mbit/s in runs that were 0.1 ms late in the mean,
+14.6 in one of 3 ms, and 10.9 in one of 12 ms (a queue of 100 packets, 20 ms)."""
 
 from __future__ import annotations
 
@@ -35,6 +37,9 @@ QUEUE_OF_DEVICE = 10_000
 MTU = SEGMENT_BYTES + 52
 # how much longer than its segments at one a millisecond a run may take
 PATIENCE = 8
+# a run whose packets left later than this in the mean is made again, so often at most
+LATEST_US = 300
+TRIES = 3
 # of the runs of this process, for names that no two have
 NUMBERS = itertools.count()
 
@@ -112,11 +117,21 @@ def run(case: Case, folder: Path, number: int = 1) -> Outcome:
     """Runs a case in real time. What it gave is kept in the folder, and a run that is there isn't repeated."""
     place = str(folder / ("linux-%s-%d" % (case.name, number)))
     log, windows = Path(place + ".log"), Path(place + ".windows")
-    said = kept(Path(place + ".summary"), case, lambda: printed(case, folder, log, windows))
+    said = kept(Path(place + ".summary"), case, lambda: punctual(case, folder, log, windows))
     notes = summary(said, case)
     begin = notes.pop("begin_ns")
     acks = acknowledgements(read_log(log), case)
     return Outcome(case, "linux", case.algorithm, acks, read_windows(windows, begin, 1e-9), number, notes)
+
+
+def punctual(case: Case, folder: Path, log: Path, windows: Path) -> str:
+    """What the emulator prints of a run that was on time, or of the last try."""
+    said = ""
+    for _ in range(TRIES):
+        said = printed(case, folder, log, windows)
+        if summary(said, case)["late_mean_us"] <= LATEST_US:
+            break
+    return said
 
 
 def printed(case: Case, folder: Path, log: Path, windows: Path) -> str:

@@ -11,7 +11,11 @@ from .results import cells_of, medians
 
 # Reno on the fixed link: the most distance in per cent
 RENO_PERCENT = 5
-RENO_FIGURES = ("throughput_mbps", "queueing_mean_ms", "queueing_p95_ms")
+RENO_FIGURES = {
+    "throughput_mbps": "throughput",
+    "queueing_mean_ms": "mean wait",
+    "queueing_p95_ms": "95th percentile of the wait",
+}
 # losses of CUBIC: the greatest factor, on these traces with these queues
 CUBIC_FACTOR = 1.5
 CUBIC_TRACES, CUBIC_QUEUES = ("fixed", "wave"), (100, 250)
@@ -66,11 +70,11 @@ def reno_on_fixed(figures: Figures, cell: Any, reference: str) -> Iterator[Findi
     if cell[0] != "fixed" or not figures.has(reference, "reno", cell):
         return
     for sender in ("reno", "linux-reno"):
-        for name in RENO_FIGURES:
+        for name, what in RENO_FIGURES.items():
             if figures.has("ccp", sender, cell):
                 ratio = figures.of("ccp", sender, cell, name) / figures.of(reference, "reno", cell, name)
                 percent = 100 * (ratio - 1)
-                limit = "Reno on `fixed`: %s within %d %%" % (name, RENO_PERCENT)
+                limit = "Reno on `fixed`: %s within %d %%" % (what, RENO_PERCENT)
                 yield Finding(limit, cell, sender, "%+.1f %%" % percent, abs(percent) <= RENO_PERCENT)
 
 

@@ -1,8 +1,8 @@
-"""Reads what a link did with the packets of a stack, as acknowledgements of `ccp`, so that `ccp_tools.metrics` gives the
-same figures of each stack.
+"""Reads what a link did with the packets of a stack, as acknowledgements of `ccp`, so that `ccp_tools.metrics` gives
+the same figures of each stack.
 
-A log has a line for each data packet in the order in which they came to the link: its time in microseconds, its sequence
-number, and its wait for a chance in microseconds, or -1 where it was lost."""
+A log has a line for each data packet in the order in which they came to the link: its time in microseconds, its
+sequence number, and its wait for a chance in microseconds, or -1 where it was lost."""
 
 from __future__ import annotations
 
@@ -17,8 +17,8 @@ from .cases import SEGMENT_BYTES, Case
 
 
 def kept(path: Path, case: Case, work: Callable[[], str]) -> str:
-    """What a run of a case printed. `work` runs it where the file at `path` doesn't have a run of this very case, and then
-    the file gets it."""
+    """What a run of a case printed. `work` runs it where the file at `path` doesn't have a run of this very case, and
+    then the file gets it."""
     head = "%r\n" % (case,)
     if not (path.exists() and path.read_text().startswith(head)):
         path.write_text(head + work())

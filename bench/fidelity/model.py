@@ -24,8 +24,8 @@ def identity(path: str | Path | None = None) -> str:
 
 
 def scenario_of(cases: Sequence[Case]) -> Dict[str, Any]:
-    """The scenario of the cases, one after another with each sender of their algorithm. The cases are of one length, and
-    of equal losses."""
+    """The scenario of the cases, one after another with each sender of their algorithm. The cases are of one length,
+    and of equal losses."""
     made: Dict[str, Any] = {}
     for case in cases:
         words = ["--senders", ",".join(SENDERS[case.algorithm]), "--queue", str(case.queue)]

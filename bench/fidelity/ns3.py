@@ -1,4 +1,4 @@
-"""The cases in ns-3: `TcpLinuxReno` and `TcpCubic` with SACK and PRR. It needs Debian's libns3-dev and a C++ compiler."""
+"""The cases in ns-3: `TcpLinuxReno` and `TcpCubic` with SACK and PRR. It needs libns3-dev of Debian, and g++."""
 
 from __future__ import annotations
 
@@ -37,8 +37,8 @@ def program(folder: Path) -> Path:
 
 
 def run(case: Case, folder: Path, has_hystart: bool = True) -> Outcome:
-    """Runs a case in virtual time; equal cases give equal figures. What it gave is kept in the folder, and a run that is
-    there isn't repeated."""
+    """Runs a case in virtual time; equal cases give equal figures. What it gave is kept in the folder, and a run that
+    is there isn't repeated."""
     sender = case.algorithm if has_hystart else case.algorithm + " without HyStart"
     place = str(folder / ("ns3-%s%s" % (case.name, "" if has_hystart else "-without-hystart")))
     log, windows = Path(place + ".log"), Path(place + ".windows")

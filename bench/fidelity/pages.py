@@ -5,6 +5,7 @@ from __future__ import annotations
 from pathlib import Path
 from typing import Any, Dict, Iterable, List, Mapping, Sequence, Tuple
 
+import numpy as np
 import pandas as pd
 from ccp_tools import plots
 from ccp_tools.errors import CcpError
@@ -22,6 +23,8 @@ HEADS = ["Mbit/s", "lost packets", "wait", "p95"]
 MARK = "<!-- made by bench/fidelity/run: %s -->"
 END = "<!-- end -->"
 LOOK = plots.Look("page")
+# the times at which a picture has the windows
+POINTS = 1000
 
 
 # ---- tables
@@ -50,9 +53,7 @@ def grid(frame: pd.DataFrame, queues: Sequence[int] | None = None) -> str:
         for algorithm in ALGORITHMS:
             values = []
             for name, form in SHOWN:
-                texts = [
-                    value_text(figures, stack, sender % algorithm, cell, name, form) for stack, sender in SENDERS
-                ]
+                texts = [value_text(figures, stack, sender % algorithm, cell, name, form) for stack, sender in SENDERS]
                 values.append(" / ".join(texts))
             rows.append([*map(str, cell), algorithm, *values])
     return table(["trace", "queue", "ms", "sender", *HEADS], rows)
@@ -61,7 +62,9 @@ def grid(frame: pd.DataFrame, queues: Sequence[int] | None = None) -> str:
 def orders(found: Iterable[Finding]) -> str:
     """The mean waits by which senders are ranked, a row a cell and pair."""
     rows = [
-        [*map(str, one.cell), one.sender, one.value, "yes" if one.holds else "no"] for one in found if "waits" in one.limit
+        [*map(str, one.cell), one.sender, one.value, "yes" if one.holds else "no"]
+        for one in found
+        if "waits" in one.limit
     ]
     return table(["trace", "queue", "ms", "senders", "wait: Reno, CUBIC", "same order"], rows)
 
@@ -135,13 +138,21 @@ def windows(outcomes: Sequence[Outcome], until_s: float | None = None) -> Figure
     sheet = plots.Sheet(LOOK, keys, [14.0])
     figure = sheet.figure()
     panel = sheet.axes[0]
+    end = until_s or min(float(one.acks["now"].iloc[-1]) / 1e6 for one in outcomes)
+    times = np.linspace(0, end, POINTS)
     for at, one in enumerate(outcomes):
-        panel.step(one.windows["seconds"], one.windows["segments"], where="post", **plots.line_look(at))
+        panel.plot(times, sampled(one.windows, times), **plots.line_look(at))
     plots.stack(sheet, "time [s]")
-    end = until_s or min(one.acks["now"].iloc[-1] / 1e6 for one in outcomes)
-    most = max(one.windows["segments"][one.windows["seconds"] <= end].max() for one in outcomes)
-    panel.set(ylabel="window [segments]", xlim=(0, end), ylim=(0, 1.05 * most))
+    panel.set(ylabel="window [segments]", xlim=(0, end))
+    panel.set_ylim(bottom=0)
     return figure
+
+
+def sampled(found: pd.DataFrame, times: np.ndarray) -> np.ndarray:
+    """The window at each time, in segments; before the first one it isn't known."""
+    at = np.searchsorted(found["seconds"].to_numpy(), times, "right") - 1
+    values = found["segments"].to_numpy().astype(float)
+    return np.where(at < 0, np.nan, values[np.maximum(at, 0)])
 
 
 def label_of(one: Outcome) -> str:

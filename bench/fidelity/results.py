@@ -1,8 +1,8 @@
 """The figures of all runs, as data: a row a run, in a CSV file.
 
-Columns: `stack` (ccp, ns-3, linux), `version`, `sender`, the case (`trace`, `queue` in packets, `delay_ms`, `algorithm`,
-`segments`), `run` from 1, the figures FIGURES of docs/metrics.md, `lost` and `lost_after_5s` in packets, and of Linux how
-late packets left the emulator in microseconds, in the mean and as a 95th percentile."""
+Columns: `stack` (ccp, ns-3, linux), `version`, `sender`, the case (`trace`, `queue` in packets, `delay_ms`,
+`algorithm`, `segments`), `run` from 1, the figures FIGURES of docs/metrics.md, `lost` and `lost_after_5s` in packets, and
+of Linux how late packets left the emulator in microseconds, in the mean and as a 95th percentile."""
 
 from __future__ import annotations
 
@@ -74,4 +74,3 @@ def cells_of(frame: pd.DataFrame) -> List[Any]:
     """The cells (trace, queue, delay in ms) of the figures in order."""
     rows = frame[["trace", "queue", "delay_ms"]].drop_duplicates()
     return [tuple(row) for row in rows.itertuples(index=False)]
-

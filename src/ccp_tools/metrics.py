@@ -24,8 +24,8 @@ with N small changes: the queue by up to three packets, each delay by up to 3 ms
     ccp scenario --for shared --shared fixed:100:5 --seconds 50 examples/traces/fixed.trace > two.json
     ccp metrics two.json --orders all --changes 10 --by sender --columns share
 
-A loss rate is that of slow start where most packets are lost in the first 5 s: `slow_start_loss_share` has the share, and
-a line on standard error names such cases.
+A loss rate is that of slow start where most packets are lost in the first 5 s: `slow_start_loss_share` has the share,
+and a line on standard error names such cases.
 
 A case with a fault, without a report, with a window that never moved, with held reports, or whose own program was
 changed by its agent has the reason in the column `doubts` and on standard error: its figures may not be those of the
@@ -322,9 +322,9 @@ def figures_of_orders(
     """The figures of flows that share a link, in `count` orders of the scenario's flows, or in all where it is 0, each
     with so many small changes of queue and delays.
 
-    A row for each flow of each run, those of a run in the order of the scenario: the columns of `figures`, and `run` from
-    1, the flow's `place` in the run's order from 1, and `change`, 0 where nothing is changed. `path` is that of the
-    program. Errors: CcpError where the scenario isn't one of `shared`, or has too many orders."""
+    A row for each flow of each run, those of a run in the order of the scenario: the columns of `figures`, and `run`
+    from 1, the flow's `place` in the run's order from 1, and `change`, 0 where nothing is changed. `path` is that of
+    the program. Errors: CcpError where the scenario isn't one of `shared`, or has too many orders."""
     made = []
     for run, table in orders.tables_of(orders.runs_of(dict(scenario), count, changes), path):
         flows = range(len(run.order))

@@ -1,8 +1,8 @@
 """Flows that share a link, in several orders of the scenario and with small changes of queue and delays.
 
-Flows of `shared` take turns in the order of the scenario, and queue and delays decide which of them finds the last place
-of the queue. So a share of one run is one sample (docs/shared.md). `ccp metrics --orders` makes all runs, and averages
-over them.
+Flows of `shared` take turns in the order of the scenario, and queue and delays decide which of them finds the last
+place of the queue. So a share of one run is one sample (docs/shared.md). `ccp metrics --orders` makes all runs, and
+averages over them.
 
 Equal arguments give equal runs on every machine."""
 
@@ -57,8 +57,8 @@ def order_count(text: str) -> int:
 
 
 def orders_of(flows: int, count: int = 0) -> List[Tuple[int, ...]]:
-    """`count` orders of the flows from 0, evenly spaced among all in lexicographic order; all where it is 0, or more than
-    there are."""
+    """`count` orders of the flows from 0, evenly spaced among all in lexicographic order; all where it is 0, or more
+    than there are."""
     all_of_them = math.factorial(flows)
     some = min(count, all_of_them) or all_of_them
     if some > MOST_RUNS:
@@ -91,8 +91,8 @@ def changed(scenario: Scenario, change: int) -> Scenario:
 
 
 def runs_of(scenario: Scenario, count: int = 0, changes: int = 0) -> List[Run]:
-    """The runs of a scenario of `shared`: `count` of its orders, or all, each with the changes from 1, or unchanged where
-    there is none. A scenario without flows or a shared link is a CcpError."""
+    """The runs of a scenario of `shared`: `count` of its orders, or all, each with the changes from 1, or unchanged
+    where there is none. A scenario without flows or a shared link is a CcpError."""
     if not isinstance(scenario.get("shared"), dict) or not scenario.get("cases"):
         raise CcpError("--orders: flows that share a link are expected, as `ccp scenario --shared` writes them")
     orders = orders_of(len(scenario["cases"]), count)

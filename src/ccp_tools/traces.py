@@ -137,7 +137,12 @@ def gap_warning(name: str, times: Sequence[int]) -> str | None:
     gaps = [gap for gap in gaps_of(times) if gap > LONG_GAP_MS]
     if not gaps:
         return None
-    what = "%d gap%s longer than %d ms, up to %d ms" % (len(gaps), "" if len(gaps) == 1 else "s", LONG_GAP_MS, max(gaps))
+    what = "%d gap%s longer than %d ms, up to %d ms" % (
+        len(gaps),
+        "" if len(gaps) == 1 else "s",
+        LONG_GAP_MS,
+        max(gaps),
+    )
     why = "the retransmission timer of a real sender fires there, and ccp has none"
     return "the trace %s has %s: %s" % (name, what, why)
 

@@ -228,7 +228,7 @@ def summary(rows: Sequence[Row], by: Sequence[str]) -> str:
 
 
 def marks_of(frame: pd.DataFrame) -> Tuple[List[str], List[float]]:
-    """What the rows of the figures are of, and the shares of their losses that are slow start's, over seeds in the mean."""
+    """What the figures are of, and which share of the losses is slow start's, over seeds in the mean."""
     place = ["%s on %s" % pair for pair in zip(frame["sender"], frame["trace"])]
     means = frame[slow_start.FIGURE].groupby(place, sort=False).mean()
     return list(means.index), list(means)
@@ -386,7 +386,13 @@ class Page:
             trace = Trace(trace_times(text, name))
             rate = 12 * len(trace.times) * (self.arguments.aggregate or 1) / trace.times[-1]
             made.append(
-                {"name": name, "rate": rate, "length": trace.times[-1] / 1000, "gap": max(gaps_of(trace.times)), "sha256": sha256(text)}
+                {
+                    "name": name,
+                    "rate": rate,
+                    "length": trace.times[-1] / 1000,
+                    "gap": max(gaps_of(trace.times)),
+                    "sha256": sha256(text),
+                }
             )
         return made
 
