@@ -160,9 +160,9 @@ def doubts_of(one: Scenario, table: texts.Table, rows: Sequence[Mapping[str, Any
 def jobs_of(found: Sequence[Sharing], scenario: Scenario, look: Look) -> List[Tuple[str, str, str, Any]]:
     """The plots of what was shared, as report.drawn_all takes them."""
     what = (
-        "All senders at once over one link: throughput with the link's capacity in grey, shares, and Jain's index; then "
-        "the queue, with its length dashed, and the packets that were lost. The queue is what is in flight less what the "
-        "link served within the delay before, so it counts lost packets whose loss isn't known yet."
+        "All senders at once over one link: throughput with the link's capacity in grey, shares, and Jain's index; "
+        "then the queue, with its length dashed, and the packets that were lost. The queue is what is in flight less "
+        "what the link served within the delay before, so it counts lost packets whose loss isn't known yet."
     )
     return [
         ("shared-" + one.trace, "Sharing one link: " + one.trace, what, partial(pages_of, one, scenario, look))
