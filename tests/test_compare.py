@@ -266,6 +266,21 @@ def test_an_option_beside_the_file_replaces_its_alternative(tmp_path):
     assert read("--acks", "9").acks == 9 and read("--acks", "9").seconds is None
 
 
+def test_the_file_keeps_every_option(tmp_path):
+    words = "--queue-ms 5,10 --delay-ms 10,20.5 --losses none,rate:0.01:3,rate:0.1 --seeds 1..3 --mark none,7 --mss 500"
+    words += " --timeout-ms 300 --slots 3 --lag 2 --cut 900 --aggregate 2 --seconds 0.5 --from 0.1 --size column"
+    parser = compare.Parser()
+    compare.add_arguments(parser)
+    programs = ["reno, mine=%s, x=cubic:held" % (EXAMPLES / "delay.portus"), "--portus", "held=%s" % TRACES[1]]
+    rest = ["--title", 'A "title"', "--font", "DejaVu Sans,6", "--shared", "--different-spans"]
+    given = parser.parse_args(["a=%s" % TRACES[0], *words.split(), "--senders", *programs, *rest])
+    (tmp_path / "one.toml").write_text(compare.toml_text(given, compare.comparison_of(given)))
+    read = compare.with_file(parser.parse_args([str(tmp_path / "one.toml")]))
+    assert read.senders.words == given.senders.words
+    assert [(one.label, one.seed) for one in read.losses] == [(one.label, one.seed) for one in given.losses]
+    assert {**vars(read), "losses": None} == {**vars(given), "losses": None}
+
+
 def test_dry_run_writes_nothing(program, tmp_path):
     words = [TRACES[0], "--senders", "reno", "--seconds", "0.3", "--dry-run", "--out", tmp_path / "out"]
     made = command("compare", *words)
