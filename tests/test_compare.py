@@ -1,21 +1,26 @@
 """`ccp compare`: the same seconds for all senders, doubts, the folder, compare.toml, and the report in a browser."""
 from __future__ import annotations
 
+import argparse
 import csv
 import html
 import json
 import re
 import shutil
 from pathlib import Path
+from types import SimpleNamespace
 
 import pytest
-from support import EXAMPLES, TRACES, command, needs, ran, require
+from support import EXAMPLES, TRACES, command, needs, ran, require, script
 
 pytestmark = needs("import matplotlib", "import pandas", "import jinja2")
 require("matplotlib")
 
-from ccp_tools.compare import cases  # noqa: E402
+from ccp_tools.compare import cases, shared  # noqa: E402
+from ccp_tools.compare import command as compare  # noqa: E402
 from ccp_tools.compare.cases import Comparison  # noqa: E402
+from ccp_tools.frames import acks_in  # noqa: E402
+from ccp_tools.queues import Queue  # noqa: E402
 from ccp_tools.traces import Trace, read_trace  # noqa: E402
 
 FAULTY = """(def (Report (volatile seen 0)) (least +infinity))
@@ -24,47 +29,76 @@ FAULTY = """(def (Report (volatile seen 0)) (least +infinity))
 SPAN_US = 400_000
 
 
-@pytest.fixture(scope="module")
-def compared(program, tmp_path_factory) -> Path:
-    """The folder of a comparison with a sender that faults."""
-    room = tmp_path_factory.mktemp("compare")
+def run_compare(room: Path, *words: str) -> Path:
+    """The folder of a comparison of three senders on two traces, one of which faults."""
     (room / "faulty.portus").write_text(FAULTY)
     senders = "reno, delay=%s,faulty=%s" % (EXAMPLES / "delay.portus", room / "faulty.portus")
-    made = command("compare", TRACES[0], TRACES[1], "--senders", senders, "--seconds", "0.4", "--out", room / "out")
+    given = [TRACES[0], TRACES[1], "--senders", senders, "--seconds", "0.4", *words]
+    made = command("compare", *given, "--out", room / "out")
     assert made.status == 0, made.errors
     (room / "out" / "printed").write_text(made.output)
     (room / "out" / "errors").write_text(made.errors)
     return room / "out"
 
 
-def own_figures(folder: Path):
-    """Each figure of the report from the raw acknowledgements, by a reader of its own."""
+@pytest.fixture(scope="module")
+def compared(program, tmp_path_factory) -> Path:
+    """The folder of a comparison with the defaults."""
+    return run_compare(tmp_path_factory.mktemp("compare"))
+
+
+@pytest.fixture(scope="module")
+def aggregated(program, tmp_path_factory) -> Path:
+    """The same of packets of two segments, a queue by the link's rate, and without the beginning."""
+    return run_compare(tmp_path_factory.mktemp("two"), "--aggregate", "2", "--queue", "2bdp", "--from", "0.1")
+
+
+def own_figures(folder: Path, begin_us: int = 0):
+    """Each figure of the report from the raw acknowledgements, by a reader of its own: of each case the cells of the
+    first table, and the figures of metrics.csv."""
     scenario = json.loads((folder / "scenario.json").read_text())
-    found = {}
+    found, span_us = {}, SPAN_US - begin_us
     for part in re.split(r"(?m)^flow ", (folder / "acks.txt").read_text())[1:]:
         head, *lines = part.rstrip("\n").split("\n")
         case = scenario["cases"][int(head.split(" ")[0])]
         acks = [{word.split("=")[0]: int(word.split("=")[1]) for word in line.split(" ")} for line in lines]
         assert len(acks) == case["acks"] and acks[-1]["now"] > SPAN_US, "%s ends before the span" % case["name"]
-        inside = [ack for ack in acks if ack["now"] <= SPAN_US]
+        inside = [ack for ack in acks if begin_us <= ack["now"] - (begin_us > 0) < SPAN_US + (begin_us == 0)]
         times = [1000 * int(time) for time in scenario["traces"][case["trace"]].split()]
-        chances = sum(
-            1 for turn in range(SPAN_US // times[-1] + 1) for time in times if turn * times[-1] + time <= SPAN_US
-        )
+        every = (turn * times[-1] + time for turn in range(SPAN_US // times[-1] + 1) for time in times)
+        chances = sum(1 for time in every if time <= SPAN_US and (not begin_us or time > begin_us))
         trips = sorted(ack["rtt_sample_us"] for ack in inside if ack.get("packets_acked"))
         waits = [trip - case["delay_us"] for trip in trips]
         lost = sum(ack.get("lost_pkts_sample", 0) for ack in inside)
-        rate = 8 * sum(ack.get("bytes_acked", 0) for ack in inside) / SPAN_US
-        found[case["trace"], case["sender"]] = [
-            "%.2f" % rate,
-            "%.1f" % (100 * len(trips) / chances),
-            "%.2f" % (100 * lost / (lost + len(trips))),
-            "%.1f" % (sum(waits) / len(waits) / 1000),
-            *("%.1f" % (waits[max(0, -(-len(waits) * share // 100) - 1)] / 1000) for share in (50, 95, 99)),
-            "%.3f" % (rate / (sum(trips) / len(trips) / 1000)),
-            "%.2f" % (SPAN_US / 1e6),
-        ]
+        rate = 8 * sum(ack.get("bytes_acked", 0) for ack in inside) / span_us
+        ranked = [waits[max(0, -(-len(waits) * share // 100) - 1)] / 1000 for share in (50, 95, 99)]
+        losses = [ack["now"] for ack in inside if ack.get("lost_pkts_sample")]
+        found[case["trace"], case["sender"]] = {
+            "throughput_mbps": rate,
+            "utilization": len(trips) / chances,
+            "loss_rate": lost / (lost + len(trips)),
+            "queueing_mean_ms": sum(waits) / len(waits) / 1000,
+            "queueing_p50_ms": ranked[0],
+            "queueing_p95_ms": ranked[1],
+            "queueing_p99_ms": ranked[2],
+            "power": rate / (sum(trips) / len(trips) / 1000),
+            "span_s": span_us / 1e6,
+            "end_s": acks[-1]["now"] / 1e6,
+            "rtt_mean_ms": sum(trips) / len(trips) / 1000,
+            "first_loss_s": losses[0] / 1e6 if losses else None,
+            "packets": len(trips),
+            "lost": lost,
+            "timeouts": sum(ack.get("was_timeout", 0) for ack in inside),
+        }
     return found
+
+
+def cells_of(own):
+    """The cells of the report's first table, in its order."""
+    shown = [("throughput_mbps", "%.2f", 1), ("utilization", "%.1f", 100), ("loss_rate", "%.2f", 100)]
+    shown += [("queueing_%s_ms" % name, "%.1f", 1) for name in ("mean", "p50", "p95", "p99")]
+    shown += [("power", "%.3f", 1), ("span_s", "%.2f", 1)]
+    return [form % (own[name] * factor) for name, form, factor in shown]
 
 
 def rows_of_page(page: str):
@@ -77,16 +111,55 @@ def rows_of_page(page: str):
         yield cells, "doubtful" in row, 'best"' in row
 
 
-def test_each_figure_of_the_report(compared):
-    own, page = own_figures(compared), (compared / "report.html").read_text()
+@pytest.mark.parametrize("name, begin_us, extra", [("compared", 0, 0), ("aggregated", 100_000, 1)])
+def test_each_figure_of_the_report(request, name, begin_us, extra):
+    """In the first table, in what is printed, in metrics.csv, and in the table over all traces. `extra` columns say in
+    what the cases of a trace differ."""
+    folder = request.getfixturevalue(name)
+    own, page = own_figures(folder, begin_us), (folder / "report.html").read_text()
     rows = list(rows_of_page(page))
     assert len(rows) == len(own) == 6
     for cells, _, _ in rows:
-        assert cells[2:] == own[cells[0], cells[1].split(" ")[0]], cells
-    for line in (compared / "printed").read_text().split("\n")[1:7]:
+        assert cells[2:] == cells_of(own[cells[0], cells[1].split(" ")[0]]), cells
+    for line in (folder / "printed").read_text().split("\n")[1:7]:
         words = line.replace(" !", "").split()
-        figures = own[words[0], words[1]]
+        figures = cells_of(own[words[0], words[1]])
         assert words[2:] == [*figures[:4], *figures[5:]], line
+    with (folder / "metrics.csv").open() as file:
+        for row in csv.DictReader(file):
+            for figure, value in own[row["trace"], row["sender"]].items():
+                shown = float(row[figure]) if row[figure] else None
+                assert shown == pytest.approx(value, rel=1e-8), (row["case"], figure)
+    for sender in ("reno", "delay", "faulty"):
+        of_all = [own[trace, sender] for trace in ("fixed", "wave")]
+        means = [sum(one[name] for one in of_all) / 2 for name in ("utilization", "loss_rate", "queueing_p95_ms")]
+        wanted = "".join("<td class=\"number\">%s</td>" % text for text in (
+            "%.1f" % (100 * means[0]), "%.2f" % (100 * means[1]), "%.1f" % means[2]
+        ))
+        assert re.search(r"<td>%s( \u26a0)?</td>%s" % (sender, re.escape(wanted)), page), (sender, wanted)
+
+
+def test_what_each_case_did(compared):
+    """The counts of the report are those of the raw acknowledgements and of the lines of the timeline."""
+    own, page = own_figures(compared), (compared / "report.html").read_text()
+    body = page.partition("What each case did")[2].partition("</table>")[0]
+    texts = re.split(r"(?m)^flow ", (compared / "timeline.txt").read_text())[1:]
+    for text in texts:
+        case = re.match(r"[0-9]+ case=(\S+)", text)[1]
+        figures = own[tuple(case.split("-"))]
+        counts = [figures[name] for name in ("packets", "lost", "timeouts")]
+        counts.append(len(re.findall(r"(?m)^ticket [0-9]+ report ", text)))
+        counts.append(int(re.search(r"(?m)^end .* held=([0-9]+)", text)[1]))
+        counts += [len(re.findall(r"(?m)^%s " % kind, text)) for kind in ("fault", "epoch")]
+        assert "<td>%s</td>%s" % (case, "".join("<td class=\"number\">%d</td>" % count for count in counts)) in body
+
+
+def test_packets_of_two_segments(aggregated):
+    page = (aggregated / "report.html").read_text()
+    assert "1448, 2 in a packet" in page and ">2bdp: 20<" in page and "fixed: 0.1 to 0.4" in page
+    assert "12.0</td>" in page.partition("longest gap")[2].partition("</table>")[0]
+    first, *_ = json.loads((aggregated / "scenario.json").read_text())["cases"]
+    assert (first["mss"], first["queue"], first["aggregate"]) == (2896, 20, 2)
 
 
 def test_doubts_are_seen_and_never_bold(compared):
@@ -95,6 +168,8 @@ def test_doubts_are_seen_and_never_bold(compared):
         assert is_marked == cells[1].startswith("faulty") and not (is_marked and is_bold), cells
     assert any(is_bold for _, _, is_bold in rows_of_page(page))
     assert "case fixed-faulty: " in (compared / "errors").read_text() and "faults of its program" in page
+    warning = "faulty.portus:2:42: `least` begins as `+infinity`: a sum of it is a fault (`Overflow`)"
+    assert warning in (compared / "errors").read_text() and warning in html.unescape(page).partition('id="results"')[0]
     assert "! faulty on fixed: " in (compared / "printed").read_text()
     assert page.index("Before you read the figures") < page.index('id="results"') < page.index('<table id="figures">')
     with (compared / "metrics.csv").open() as file:
@@ -176,6 +251,36 @@ def test_what_is_refused(program, tmp_path, words, status, error):
     assert made.status == status and error in made.errors and "Traceback" not in made.errors, made.errors
 
 
+def test_an_option_beside_the_file_replaces_its_alternative(tmp_path):
+    """--queue-ms in place of the file's queue, and --acks in place of its seconds."""
+    path = tmp_path / "one.toml"
+    path.write_text('traces = ["%s"]\nsenders = "reno"\nqueue = ["7", "1bdp"]\nseconds = 3\n' % TRACES[0])
+    parser = compare.Parser()
+    compare.add_arguments(parser)
+
+    def read(*words: str) -> argparse.Namespace:
+        return compare.with_file(parser.parse_args([str(path), *words]))
+
+    assert compare.comparison_of(read()).queue == [Queue(7), Queue(products=1)] and read().seconds == 3_000_000
+    assert compare.comparison_of(read("--queue-ms", "50")).queue == [Queue(ms=50)]
+    assert read("--acks", "9").acks == 9 and read("--acks", "9").seconds is None
+
+
+def test_the_file_keeps_every_option(tmp_path):
+    words = "--queue-ms 5,10 --delay-ms 10,20.5 --losses none,rate:0.01:3,rate:0.1 --seeds 1..3 --mark none,7 --mss 500"
+    words += " --timeout-ms 300 --slots 3 --lag 2 --cut 900 --aggregate 2 --seconds 0.5 --from 0.1 --size column"
+    parser = compare.Parser()
+    compare.add_arguments(parser)
+    programs = ["reno, mine=%s, x=cubic:held" % (EXAMPLES / "delay.portus"), "--portus", "held=%s" % TRACES[1]]
+    rest = ["--title", 'A "title"', "--font", "DejaVu Sans,6", "--shared", "--different-spans"]
+    given = parser.parse_args(["a=%s" % TRACES[0], *words.split(), "--senders", *programs, *rest])
+    (tmp_path / "one.toml").write_text(compare.toml_text(given, compare.comparison_of(given)))
+    read = compare.with_file(parser.parse_args([str(tmp_path / "one.toml")]))
+    assert read.senders.words == given.senders.words
+    assert [(one.label, one.seed) for one in read.losses] == [(one.label, one.seed) for one in given.losses]
+    assert {**vars(read), "losses": None} == {**vars(given), "losses": None}
+
+
 def test_dry_run_writes_nothing(program, tmp_path):
     words = [TRACES[0], "--senders", "reno", "--seconds", "0.3", "--dry-run", "--out", tmp_path / "out"]
     made = command("compare", *words)
@@ -194,14 +299,30 @@ MEASURE = """<script>window.addEventListener("load", function () {
     if (isWide && getComputedStyle(image.parentElement).overflowX !== "auto") { bad.push("wide " + image.alt); }
   });
   document.querySelector("#figures th button").click();
+  var asked = performance.getEntriesByType("resource").map(function (one) { return one.name; });
   document.title = "MEASURED " + JSON.stringify({images: document.images.length, bad: bad,
+    asked: asked.filter(function (name) { return name.indexOf("data:") !== 0; }),
     scrolls: document.documentElement.scrollWidth > wide, sorted: document.querySelectorAll("[aria-sort]").length});
 });</script></body>"""
 
 
-@needs("chromium")
+def outside(pdf: Path):
+    """The words of a PDF that aren't inside their page, and how many words there are."""
+    seen = ran(["pdftotext", "-bbox", pdf, "-"])
+    found, count = [], 0
+    for wide, high, body in re.findall(r'<page width="([0-9.]+)" height="([0-9.]+)">(.*?)</page>', seen.output, re.S):
+        for *box, word in re.findall(r'<word xMin="(.*?)" yMin="(.*?)" xMax="(.*?)" yMax="(.*?)">(.*?)</word>', body):
+            left, top, right, bottom = map(float, box)
+            count += 1
+            if left < 0 or top < 0 or right > float(wide) or bottom > float(high):
+                found.append(word)
+    return found, count
+
+
+@needs("chromium", "pdftotext")
 @pytest.mark.parametrize("width", [1200, 420])
 def test_the_page_in_a_browser(compared, tmp_path, width):
+    """No error on its console, nothing asked of a network, each picture inside its box, on screen and printed."""
     page = tmp_path / "page.html"
     page.write_text((compared / "report.html").read_text().replace("</body>", MEASURE))
     common = [
@@ -215,10 +336,12 @@ def test_the_page_in_a_browser(compared, tmp_path, width):
     common += ["--enable-logging=stderr", "--log-level=0", "--host-resolver-rules=MAP * ~NOTFOUND"]
     seen = ran([*common, "--virtual-time-budget=4000", "--dump-dom", page.as_uri()])
     found = json.loads(html.unescape(re.search(r"<title>MEASURED (.*?)</title>", seen.output).group(1)))
-    assert found == {"images": 6, "bad": [], "scrolls": False, "sorted": 1}, found
+    assert found == {"images": 6, "bad": [], "asked": [], "scrolls": False, "sorted": 1}, found
     assert ":CONSOLE" not in seen.errors, [line for line in seen.errors.split("\n") if "CONSOLE" in line]
     printed = ran([*common, "--no-pdf-header-footer", "--print-to-pdf=%s" % (tmp_path / "page.pdf"), page.as_uri()])
     assert (tmp_path / "page.pdf").read_bytes().startswith(b"%PDF"), printed.errors
+    words, count = outside(tmp_path / "page.pdf")
+    assert count > 500 and not words, words
 
 
 # ---- senders that share a link
@@ -235,6 +358,47 @@ def test_when_flows_converge():
     assert converged([0, 1, 2, 3], acked[:4]) is None
 
 
+# the scenario of two flows over one link, of which the second one begins later, and what `shared-acks` prints of it
+JOINED = {
+    "version": 1,
+    "traces": {"t": "1\n"},
+    "shared": {"trace": "t", "queue": 8, "quantum_us": 5000, "rounds": 20},
+    "cases": [{"name": name, "trace": "t"} for name in "ab"],
+}
+JOINED_ACKS = """flow 0 case=a agent=reno
+bytes_acked=1448 packets_acked=1 now=11000 bytes_in_flight=2896 packets_in_flight=2 rtt_sample_us=11000
+bytes_acked=1448 packets_acked=1 now=12000 bytes_in_flight=1448 packets_in_flight=1 rtt_sample_us=12000
+bytes_acked=1448 packets_acked=1 now=25000 bytes_in_flight=7240 packets_in_flight=5 rtt_sample_us=10000
+flow 1 case=b agent=cubic
+bytes_acked=1448 packets_acked=1 now=26000 bytes_in_flight=2896 packets_in_flight=2 rtt_sample_us=6000
+bytes_acked=1448 packets_acked=1 lost_pkts_sample=1 now=37000 packets_in_flight=4 rtt_sample_us=7000
+"""
+
+
+def test_the_series_of_acknowledgements():
+    """By hand: a round ends before the time of the next one."""
+    series = shared.series_of_acks(acks_in(JOINED_ACKS), [0, 0.01, 0.02, 0.025, 0.03, 0.05])
+    assert series.acked.tolist() == [[0, 0], [0, 0], [2896, 0], [2896, 0], [4344, 1448], [4344, 2896]]
+    assert series.lost.tolist() == [0, 0, 0, 0, 0, 1] and series.inflight.tolist() == [0, 0, 1, 1, 7, 9]
+
+
+def test_a_program_with_the_acknowledgements_of_a_shared_link(tmp_path):
+    """Where the program has the mode, one run gives the series."""
+    (tmp_path / "acks").write_text(JOINED_ACKS + "link rounds=11 sent=41 acked=23 lost=2 inflight=16\n")
+    path = script(tmp_path, "ccp", '[ "$1" = shared-acks ] || exit 2\ncat %s\n' % (tmp_path / "acks"))
+    series = shared.series_of(JOINED, path)
+    assert series.times == [at * 5 / 1000 for at in range(12)] and series.acked[-1].tolist() == [4344, 2896]
+
+
+def test_a_flow_that_ends_before_the_run():
+    one = {**JOINED, "cases": [{"name": name, "trace": "t", "acks": 9} for name in "ab"]}
+    table = SimpleNamespace(rows=[{"acks": 9, "now": 51_000}, {"acks": 8, "now": 51_000}])
+    rows = [{"sender": "x", "doubts": ""}, {"sender": "y", "doubts": "no report"}]
+    found = shared.doubts_of(one, table, rows)
+    assert found[0] == "t, all together: y: no report" and "x: it had all its 9 acknowledgements at 0.05 s" in found[1]
+    assert len(found) == 2
+
+
 @pytest.mark.slow
 def test_senders_together(program, tmp_path):
     words = [TRACES[0], "--senders", "reno,cubic", "--seconds", "0.2", "--queue", "20", "--shared", "--quiet"]
@@ -242,6 +406,7 @@ def test_senders_together(program, tmp_path):
     assert made.status == 0, made.errors
     shared = json.loads((tmp_path / "out" / "shared.json").read_text())["shared"][0]
     assert shared["senders"] == ["reno", "cubic"] and len(shared["times_s"]) == len(shared["acked_bytes"]) > 20
+    assert len(shared["lost_packets"]) == len(shared["packets_in_flight"]) == len(shared["times_s"])
     page = (tmp_path / "out" / "report.html").read_text()
     assert "Sharing one link" in page and (tmp_path / "out" / "shared-fixed.pdf").exists()
     table = (tmp_path / "out" / "shared-fixed.txt").read_text()

@@ -1,8 +1,8 @@
 """Packets of several segments, as segmentation offload sends them on fast links.
 
 `count` chances of a link become one packet of `count` segments. The packet leaves at the last of its chances, so the
-link's rate stays, and a case reaches `count` times as far. What is given in segments is counted in such packets: queues,
-marks, the lag of answers, and losses, where a packet is lost if one of its segments is."""
+link's rate stays, and a case reaches `count` times as far. What is given in segments is counted in such packets:
+queues, marks, the lag of answers, and losses, where a packet is lost if one of its segments is."""
 from __future__ import annotations
 
 import math

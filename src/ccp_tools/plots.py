@@ -444,7 +444,9 @@ def bar_page(
     for panel, name in zip(sheet.axes, names):
         bar_panel(panel, places, senders, name, is_dense, look)
     stack(sheet, "")
-    sheet.axes[-1].set(xticks=ticks, xticklabels=labels, xlim=(-0.6 * gap, at - 0.4 * gap))
+    # few bars stay narrow, with room beside them
+    room = max(0.0, look.width / (6 * look.points) - at) / 2
+    sheet.axes[-1].set(xticks=ticks, xticklabels=labels, xlim=(-0.6 * gap - room, at - 0.4 * gap + room))
     for panel in sheet.axes:
         panel.tick_params(axis="x", length=0)
     return figure
@@ -598,7 +600,8 @@ def scatter_axes(panel: Axes, across: Sequence[float], upwards: Sequence[float],
         log_axis(panel.xaxis)
         panel.set_xlim(0.7 * low, 1.4 * high)
     else:
-        panel.set_xlim(0, 1.12 * high or 1)
+        # a mark at 0 isn't cut
+        panel.set_xlim(0 if low > 0.02 * high else -0.03 * high, 1.12 * high or 1)
         plain_axis(panel.xaxis)
     if not SHOWN[x].is_more:
         panel.invert_xaxis()
@@ -906,7 +909,8 @@ def flows(
     known = acks or {}
     ends = ends[(ends["reports"] > 0) | ends["flow"].isin(list(known))]
     last = [int(flow.frame["now"].iloc[-1]) for flow in known.values() if len(flow.frame)]
-    length = window_us(max(last, default=1))
+    # windows shorter than a round trip would show the bursts of slow start
+    length = window_us(max([1, *last, *(250 * case["delay_us"] for case in own.values())]))
     pages = []
     for part in chunks(list(ends.itertuples()), MOST_SENDERS):
         cases = [known_case(own, one.case) if scenario else None for one in part]

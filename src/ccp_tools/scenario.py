@@ -37,7 +37,7 @@ and a slower one later. With --shared, S is the length of the run.
 Fast links. A case has at most 65536 acknowledgements, 8 s at 100 Mbit/s. With --aggregate K a packet has K segments and
 takes K chances, so a case reaches K times as far. --mss, --queue, --mark, --lag and --losses stay in segments: a packet
 has K times --mss bytes, queue, mark and lag are divided by K and rounded, and a packet is lost if one of its segments
-is. docs/scenarios.md shows what changes.
+is. docs/compare.md shows what changes.
 
 Limits. A scenario that one run doesn't accept (too many cases, bytes or acknowledgements for the mode of --for) is
 refused with its size. --whole writes it all the same, for `ccp over`, which splits it. --dry-run prints the size in
@@ -284,9 +284,7 @@ class Grid:
                 raise CcpError("two traces have the name %s" % name)
             if path in paths[:at] and not self.is_quiet:
                 warn("the trace %s is given more than once" % path)
-            traces[name or trace_name(path, traces)] = aggregation.times_of(
-                self.read_times(path), self.aggregate, path
-            )
+            traces[name or trace_name(path, traces)] = aggregation.times_of(self.read_times(path), self.aggregate, path)
         return traces
 
     def read_times(self, path: str) -> List[int]:

@@ -159,6 +159,10 @@ def toml_text(arguments: argparse.Namespace, grid: Comparison) -> str:
     values["different-spans"], values["shared"] = arguments.different_spans, arguments.shared
     size = arguments.size
     values["size"] = None if size == "screen" else size if isinstance(size, str) else "%dx%d" % size
+    name, points = arguments.font
+    values["font"] = name if points is None else "%s,%g" % (name, points)
+    if values["font"] == plots.FONT:
+        del values["font"]
     lines = [
         "%s = %s" % (name, json.dumps(value)) for name, value in values.items() if value not in (None, [], "", False)
     ]

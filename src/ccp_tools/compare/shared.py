@@ -160,9 +160,9 @@ def doubts_of(one: Scenario, table: texts.Table, rows: Sequence[Mapping[str, Any
 def jobs_of(found: Sequence[Sharing], scenario: Scenario, look: Look) -> List[Tuple[str, str, str, Any]]:
     """The plots of what was shared, as report.drawn_all takes them."""
     what = (
-        "All senders at once over one link: throughput with the link's capacity in grey, shares, and Jain's index; then "
-        "the queue, with its length dashed, and the packets that were lost. The queue is what is in flight less what the "
-        "link served within the delay before, so it counts lost packets whose loss isn't known yet."
+        "All senders at once over one link: throughput with the link's capacity in grey, shares, and Jain's index; "
+        "then the queue, with its length dashed, and the packets that were lost, when their loss became known. The "
+        "queue is what is in flight less what the link served within the delay before: after losses an upper estimate."
     )
     return [
         ("shared-" + one.trace, "Sharing one link: " + one.trace, what, partial(pages_of, one, scenario, look))
@@ -183,14 +183,14 @@ def pages_of(one: Sharing, scenario: Scenario, look: Look) -> List[Figure]:
 
 def link_page(series: Series, served: np.ndarray, queue: int, look: Look) -> Figure:
     """The link's queue and losses over time. The queue is what is in flight less what the link served within the delay
-    before, so it counts lost packets whose loss isn't known yet."""
+    before, and at most its length: a lost packet is in flight until its loss is known."""
     sheet = Sheet(look, {}, [7.0, 7.0])
     figure = sheet.figure()
     above, below = sheet.axes
-    waiting = np.maximum(series.inflight - served, 0)
+    waiting = np.clip(series.inflight - served, 0, queue)
     above.plot(series.times, waiting, color="black", marker=".")
     above.axhline(queue, color="#777777", linestyle=(0, (4, 3)), linewidth=1)
-    above.set(ylabel="queue [packets]", ylim=(0, 1.1 * max(queue, waiting.max())))
+    above.set(ylabel="queue [packets]", ylim=(0, 1.1 * queue))
     lost = np.diff(series.lost) / np.diff(series.times)
     below.stairs(lost, series.times, baseline=None, color="black", linewidth=1.5)
     below.set(ylabel="lost packets per s", ylim=(0, 1.1 * max(lost.max(initial=0), 1)))
