@@ -474,7 +474,7 @@ def test_the_package_of_the_program(debian: Debian) -> None:
     page = subprocess.run(
         ["man", "-l", str(debian.top / "usr/share/man/man1/ccp.1.gz")], capture_output=True, text=True, check=True
     )
-    assert "compare congestion control over recorded links" in " ".join(page.stdout.split()) and not page.stderr
+    assert "over recorded links SYNOPSIS ccp" in " ".join(page.stdout.split()) and not page.stderr
     shown = "COMP_WORDS=(ccp camp); COMP_CWORD=1; _ccp; echo $COMPREPLY"
     assert debian.must("bash -c '. /usr/share/bash-completion/completions/ccp; %s'" % shown) == "campaign\n"
     assert debian.must("head -n 1 /usr/share/zsh/vendor-completions/_ccp") == "#compdef ccp\n"
