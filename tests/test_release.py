@@ -474,7 +474,7 @@ def test_the_package_of_the_program(debian: Debian) -> None:
     page = subprocess.run(
         ["man", "-l", str(debian.top / "usr/share/man/man1/ccp.1.gz")], capture_output=True, text=True, check=True
     )
-    assert "compare congestion control" in page.stdout and not page.stderr
+    assert "over recorded links SYNOPSIS ccp" in " ".join(page.stdout.split()) and not page.stderr
     shown = "COMP_WORDS=(ccp camp); COMP_CWORD=1; _ccp; echo $COMPREPLY"
     assert debian.must("bash -c '. /usr/share/bash-completion/completions/ccp; %s'" % shown) == "campaign\n"
     assert debian.must("head -n 1 /usr/share/zsh/vendor-completions/_ccp") == "#compdef ccp\n"
@@ -486,7 +486,7 @@ def test_the_package_of_the_program(debian: Debian) -> None:
 @in_debian
 def test_the_package_of_the_commands(debian: Debian) -> None:
     """With what it depends on, which apt installs, a command answers; one that needs more names what to install."""
-    debian.must("apt-get install --yes --no-install-recommends python3")
+    debian.must("apt-get update && apt-get install --yes --no-install-recommends python3")
     before = debian.files()
     debian.must("dpkg --install /tmp/ccp.deb /tmp/ccp-tools.deb")
     scenario = "/usr/share/doc/ccp/examples/campaign.json"

@@ -39,6 +39,7 @@ begin_search() {
     if [ -n "${CCP_PROGRAM:-}" ] || [ ! -e "$known" ]; then return; fi
     # shellcheck disable=SC2185
     exec {search}< <(cd "$here/crates" && LC_ALL=C exec find -files0-from "$known.sources" -maxdepth 0 -cnewer "$known" -print -quit 2>&1)
+    searcher=$!
 }
 
 # Sets `finding` to what proved program there is of the sources of this checkout (finding.sh). What was found before holds
@@ -52,6 +53,8 @@ find_proved() {
         IFS= read -r -d '' changed <&"$search" || :
         exec {search}<&-
         search=''
+        # the program, which takes this shell's place, doesn't wait for what it didn't start
+        wait "$searcher" || :
         if [ -n "$changed" ]; then
             # shellcheck source=tools/launcher/finding.sh
             . "$launcher/finding.sh"
