@@ -29,31 +29,35 @@ def test_the_menu_names_the_pages_in_the_order_of_the_index() -> None:
 
 
 class Page(HTMLParser):
-    """The identifiers of a page of the site, and the targets of its links and pictures."""
+    """A page of the site: its identifiers, the files that it names, and the addresses elsewhere that it loads."""
 
     def __init__(self, path: Path) -> None:
         super().__init__()
         self.identifiers: Set[str] = set()
         self.targets: List[str] = []
+        self.loaded: List[str] = []
         self.feed(path.read_text(encoding="utf-8"))
 
     def handle_starttag(self, tag: str, attrs: List[Tuple[str, Optional[str]]]) -> None:
         found = dict(attrs)
         self.identifiers.add(found.get("id") or "")
-        target = found.get("href" if tag == "a" else "src")
-        if target and not re.match(r"[a-z]+:", target):
+        target = found.get("href" if tag in ("a", "link") else "src")
+        if target and not re.match(r"[a-z]+:|//", target):
             self.targets.append(target)
+        elif target and tag != "a":
+            self.loaded.append(target)
 
 
 @needs("mkdocs")
 def test_the_site_is_built_and_each_link_leads_somewhere(tmp_path: Path) -> None:
-    """Of each page: the file of a link is there, and so is the heading that it names."""
+    """Of each page: the file of a link is there, and so is the heading that it names. Nothing is loaded from a network."""
     made = ran(["mkdocs", "build", "--strict", "--quiet", "--site-dir", tmp_path], cwd=REPOSITORY)
     assert (made.status, made.output) == (0, ""), made.errors
     # the page of a wrong address has links from the top of a server
     site: Dict[Path, Page] = {path: Page(path) for path in tmp_path.rglob("*.html") if path.name != "404.html"}
     assert len(site) > len(pages())
     for path, page in site.items():
+        assert not page.loaded, path
         for target in page.targets:
             name, _, anchor = target.partition("#")
             other = Path(os.path.normpath(path.parent / name)) if name else path

@@ -1,0 +1,53 @@
+"""The commands of the pages for users that have no output below them: each of them ends well.
+
+tools/check-docs runs those with `$`, and compares what they print. A block whose commands need what the repository hasn't
+got, as a cluster, has a line `<!-- not run: REASON -->` above it."""
+from __future__ import annotations
+
+import re
+import sys
+from pathlib import Path
+from typing import List
+
+import pytest
+from support import REPOSITORY, needs, ran
+
+BLOCK = re.compile(r"^(<!-- not run: .+ -->\n)?```\w*\n(.*?)^```$", re.DOTALL | re.MULTILINE)
+# the most seconds of a block; alone on a machine none takes ten
+SECONDS = 300
+
+
+def commands_of(page: Path) -> List[str]:
+    """The blocks of a page with commands that tools/check-docs doesn't run, and before them each command that fills a
+    folder."""
+    found = []
+    for mark, block in BLOCK.findall(page.read_text(encoding="utf-8")):
+        if re.search(r"^\$ ", block, re.MULTILINE):
+            found += re.findall(r"^\$ (\./ccp .* --out \S+)$", block, re.MULTILINE)
+        elif "./ccp " in block and not mark:
+            found.append(block)
+    return [shortened(block) for block in found]
+
+
+def shortened(block: str) -> str:
+    """The commands with one second of each trace for `compare`, where they name no time: what is tried is that they
+    run, and their figures are those of the pages' tables."""
+    return re.sub(r"^(\./ccp compare (?!.*--seconds).*)$", r"\1 --seconds 1", block, flags=re.MULTILINE)
+
+
+PAGES = [page for page in sorted((REPOSITORY / "docs").glob("*.md")) if commands_of(page)]
+
+
+@needs("parallel", "import pandas", "import matplotlib")
+@pytest.mark.parametrize("page", PAGES, ids=lambda page: page.stem)
+def test_the_commands_of_a_page_end_well(page: Path, program: Path, tmp_path: Path) -> None:
+    """They are run one after another, in a folder that has what they read."""
+    for name in ("examples", "tests"):
+        (tmp_path / name).symlink_to(REPOSITORY / name)
+    launcher = tmp_path / "ccp"
+    launcher.write_text('#!/bin/sh\nexec "%s" "$@"\n' % (REPOSITORY / "ccp"))
+    launcher.chmod(0o755)
+    env = {"CCP_PROGRAM": str(program), "CCP_PYTHON": sys.executable}
+    for block in commands_of(page):
+        done = ran(["bash", "-e", "-c", block], cwd=tmp_path, env=env, timeout=SECONDS)
+        assert done.status == 0, "%s\n%s" % (block, done.errors)
