@@ -19,9 +19,9 @@ ALGORITHMS = ("reno", "cubic")
 
 @dataclass(frozen=True)
 class Case:
-    """A bulk flow of an algorithm, `reno` or `cubic`, over a link: a trace by its name or its file, a queue in packets, a
-    round-trip time without waiting in milliseconds, and the segments that end it. The packets in `losses` are lost beside those of
-    the queue, by their numbers from 0."""
+    """A bulk flow of an algorithm, `reno` or `cubic`, over a link: a trace by its name or its file, a queue in packets,
+    a round-trip time without waiting in milliseconds, and the segments that end it. The packets in `losses` are lost
+    beside those of the queue, by their numbers from 0."""
 
     trace: str
     queue: int
