@@ -86,6 +86,15 @@ def test_scenario_of_the_model():
     assert len({case["name"] for case in made["cases"]}) == 8 and made["programs"]
 
 
+def test_traces_by_name_and_by_file(tmp_path):
+    path = tmp_path / "own.trace"
+    path.write_text("1\n")
+    (own,) = cases.grid([str(path)], [50], [20], ["reno"], 10)
+    assert own.trace_path == path and own.name == "own-50-20-reno"
+    with pytest.raises(CcpError, match="nowhere: there is no such trace"):
+        cases.grid(["nowhere"], [50], [20], ["reno"], 10)
+
+
 # ---- limits
 
 

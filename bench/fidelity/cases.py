@@ -8,6 +8,7 @@ from pathlib import Path
 from typing import Any, Dict, Iterable, List, Sequence
 
 import pandas as pd
+from ccp_tools.errors import CcpError
 
 TOP = Path(__file__).resolve().parents[2]
 TRACES = TOP / "examples" / "traces"
@@ -18,9 +19,9 @@ ALGORITHMS = ("reno", "cubic")
 
 @dataclass(frozen=True)
 class Case:
-    """A bulk flow of an algorithm, `reno` or `cubic`, over a link: a trace's name, a queue in packets, a round-trip
-    time without waiting in milliseconds, and the segments that end it. The packets in `losses` are lost beside those of
-    the queue, by their numbers from 0."""
+    """A bulk flow of an algorithm, `reno` or `cubic`, over a link: a trace by its name or its file, a queue in packets,
+    a round-trip time without waiting in milliseconds, and the segments that end it. The packets in `losses` are lost
+    beside those of the queue, by their numbers from 0."""
 
     trace: str
     queue: int
@@ -31,7 +32,7 @@ class Case:
 
     @property
     def name(self) -> str:
-        return "%s-%d-%d-%s" % (self.trace, self.queue, self.delay_ms, self.algorithm)
+        return "%s-%d-%d-%s" % (Path(self.trace).stem, self.queue, self.delay_ms, self.algorithm)
 
     @property
     def cell(self) -> Any:
@@ -40,7 +41,9 @@ class Case:
 
     @property
     def trace_path(self) -> Path:
-        return TRACES / (self.trace + ".trace")
+        """The file of the trace: the one of this name in examples/traces, else the one of this path."""
+        named = TRACES / (self.trace + ".trace")
+        return named if named.is_file() else Path(self.trace)
 
     def scenario_case(self, sender: str) -> Dict[str, Any]:
         """The members of this case that the figures of `ccp_tools.metrics` are computed with."""
@@ -71,6 +74,10 @@ def grid(
     segments: int,
     losses: Sequence[int] = (),
 ) -> List[Case]:
-    """The cases of a grid, the algorithm varying fastest."""
+    """The cases of a grid, the algorithm varying fastest. A trace that isn't there is a CcpError."""
     axes = itertools.product(traces, queues, delays_ms, algorithms)
-    return [Case(*values, segments=segments, losses=tuple(losses)) for values in axes]
+    made = [Case(*values, segments=segments, losses=tuple(losses)) for values in axes]
+    for case in made:
+        if not case.trace_path.is_file():
+            raise CcpError("%s: there is no such trace in examples/traces, and no such file" % case.trace)
+    return made

@@ -1,7 +1,7 @@
 """The figures of all runs, as data: a row a run, in a CSV file.
 
-Columns: `stack` (ccp, ns-3, linux), `version`, `sender`, the case (`trace`, `queue` in packets, `delay_ms`,
-`algorithm`, `segments`), `run` from 1, the figures FIGURES of docs/metrics.md, `lost` and `lost_after_5s` in packets, and
+Columns are `stack` (ccp, ns-3, linux), `version`, `sender`, the case (`trace`, `queue` in packets, `delay_ms`,
+`algorithm`, `segments`), `run` from 1, the figures FIGURES of docs/metrics.md, `lost_after_5s` in packets, and
 of Linux how late packets left the emulator in microseconds, in the mean and as a 95th percentile."""
 
 from __future__ import annotations
