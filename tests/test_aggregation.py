@@ -137,10 +137,9 @@ def test_losses_hit_the_same_segments():
 
 
 def test_the_shared_link():
-    (case,) = made = scenario.make(
-        ["--senders", "reno", "--for", "shared", "--shared", "fixed:100:1:50", "--aggregate", "4", str(TRACES[0])]
-    )["cases"]
-    assert case["mss"] == 4 * 1448 and len(made) == 1
+    words = ["--senders", "reno", "--for", "shared", "--shared", "fixed:100:1:50", "--aggregate", "4"]
+    made = scenario.make([*words, str(TRACES[0])])
+    assert made["shared"]["queue"] == 25 and made["cases"][0]["mss"] == 4 * 1448
 
 
 def test_when_it_is_needed(fast):

@@ -133,9 +133,10 @@ def test_each_figure_of_the_report(request, name, begin_us, extra):
     for sender in ("reno", "delay", "faulty"):
         of_all = [own[trace, sender] for trace in ("fixed", "wave")]
         means = [sum(one[name] for one in of_all) / 2 for name in ("utilization", "loss_rate", "queueing_p95_ms")]
-        wanted = "".join("<td class=\"number\">%s</td>" % text for text in (
-            "%.1f" % (100 * means[0]), "%.2f" % (100 * means[1]), "%.1f" % means[2]
-        ))
+        wanted = "".join(
+            '<td class="number">%s</td>' % text
+            for text in ("%.1f" % (100 * means[0]), "%.2f" % (100 * means[1]), "%.1f" % means[2])
+        )
         assert re.search(r"<td>%s( \u26a0)?</td>%s" % (sender, re.escape(wanted)), page), (sender, wanted)
 
 
@@ -151,7 +152,7 @@ def test_what_each_case_did(compared):
         counts.append(len(re.findall(r"(?m)^ticket [0-9]+ report ", text)))
         counts.append(int(re.search(r"(?m)^end .* held=([0-9]+)", text)[1]))
         counts += [len(re.findall(r"(?m)^%s " % kind, text)) for kind in ("fault", "epoch")]
-        assert "<td>%s</td>%s" % (case, "".join("<td class=\"number\">%d</td>" % count for count in counts)) in body
+        assert "<td>%s</td>%s" % (case, "".join('<td class="number">%d</td>' % count for count in counts)) in body
 
 
 def test_packets_of_two_segments(aggregated):

@@ -179,6 +179,7 @@ def test_scenarios(tmp_path):
     assert scenario_files.read_scenario(path) == made and path.read_text().count("\n") == 6
     path.write_text('{"version": 1,\n "cases": [1,]}')
     refused(CcpError, "a.json:2:14: no JSON", lambda: scenario_files.read_scenario(path))
+    refused(CcpError, "x:1:1: no JSON: a scenario is expected", lambda: scenario_files.scenario_of("case agent", "x"))
     refused(CcpError, "nothing.json: No such file", lambda: scenario_files.read_scenario(tmp_path / "nothing.json"))
 
 

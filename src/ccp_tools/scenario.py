@@ -333,16 +333,16 @@ class Grid:
         links = {name: Trace(times) for name, times in traces.items()}
         counts = {(name, delay_us): self.acks_of(links[name], name, delay_us) for name, delay_us in pairs}
         return [
-            self.case(one, name, counts[one.trace, one.delay_us], self.packets_in(one.queue, links[one.trace], one))
+            self.case(one, name, counts[one.trace, one.delay_us], self.queue_on(links[one.trace], one))
             for one, name in zip(points, names)
         ]
 
-    def packets_in(self, queue: Queue, link: Trace, point: Point) -> int:
-        """The packets of a queue on the link of a point."""
-        packets, most = queue.on(link, point.delay_us, self.aggregate), LIMITS["queue"]
+    def queue_on(self, link: Trace, point: Point) -> int:
+        """The packets of a point's queue on its link."""
+        packets, most = point.queue.on(link, point.delay_us, self.aggregate), LIMITS["queue"]
         if packets > most:
             more = aggregation.needed(packets, most, self.aggregate, self.mss)
-            what = "a queue of %s of the trace %s" % (queue.label, point.trace)
+            what = "a queue of %s of the trace %s" % (point.queue.label, point.trace)
             raise CcpError("%s is %d packets, and at most %d may wait: a shorter queue%s" % (what, packets, most, more))
         return packets
 

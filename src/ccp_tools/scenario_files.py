@@ -16,7 +16,9 @@ def scenario_of(text: str, place: str = "scenario") -> Scenario:
     try:
         made = json.loads(text)
     except json.JSONDecodeError as error:
-        raise CcpError("%s:%d:%d: no JSON: %s" % (place, error.lineno, error.colno, error.msg)) from None
+        is_meant = text.lstrip("\ufeff \t\r\n").startswith(("{", "["))
+        reason = error.msg if is_meant else "a scenario is expected, which begins with {"
+        raise CcpError("%s:%d:%d: no JSON: %s" % (place, error.lineno, error.colno, reason)) from None
     except (RecursionError, ValueError) as error:  # ValueError: an integer of more digits than Python reads
         what = "it is nested too deeply" if isinstance(error, RecursionError) else "a number has too many digits"
         raise CcpError("%s: no JSON: %s" % (place, what)) from None
