@@ -101,7 +101,7 @@ def add_machines(parser: argparse.ArgumentParser) -> None:
     machines.add_argument(
         "--python",
         metavar="PATH",
-        help="for --metrics: the Python of the machines, with pandas (python3; this one's own where no others are named)",
+        help="for --metrics: the Python of the machines, with pandas (python3; here the one that runs this)",
     )
 
 
