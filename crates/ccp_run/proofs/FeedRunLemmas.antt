@@ -27,22 +27,23 @@ module _ (source sink errors : StreamChange) (is_finished : Type 0) (outcome : O
   abbrev sink_of : Frames
   sink_of = frames sink.old sink.new sink.before sink.now
 
-  answers : (bytes : List ℕ) → AnswersInput source_of sink_of bytes → WritesAnswers (Alone Feed) source sink
-  answers bytes all = record { taken = bytes; takes = all.taken; answers = all.written }
+  answers : (bytes : List ℕ) → AnswersInput source_of sink_of is_finished bytes → WritesAnswers (Alone Feed) source sink is_finished
+  answers bytes all = record { taken = bytes; takes = all.taken; answers = all.written; handed = all.handed }
 
-  no_rest : WritesAnswers (Alone Feed) source sink → WritesSomeAnswers (Alone Feed) source sink
+  no_rest : WritesAnswers (Alone Feed) source sink is_finished → WritesSomeAnswers (Alone Feed) source sink is_finished
   no_rest all = record {
     front = all.taken;
     rest = [];
     later = [];
     takes = subst (Takes source.old source.new) (sym (append-nil all.taken)) all.takes;
     answers = all.answers;
+    handed = all.handed;
     begins = ap answers_written (append-nil all.taken) ∙ sym (append-nil (answers_written all.taken));
     kept = omega arith;
   }
 
   -- a frame is bad or cut, and its line says so, or memory for that line runs out
-  bad_or_not : (refusal : Refusal) → RefusesAny true (Alone Feed) source refusal → TakesWithin most_input_bytes source.old source.new → WritesAnswers (Alone Feed) source sink
+  bad_or_not : (refusal : Refusal) → RefusesAny true (Alone Feed) source refusal → TakesWithin most_input_bytes source.old source.new → WritesAnswers (Alone Feed) source sink is_finished
       → Refuses errors outcome refusal → (outcome.status ≡ 3) ⊎ (outcome.status ≢ 3) → IsRun (Alone Feed) source sink errors is_finished outcome
   bad_or_not refusal cause few all r (inl three) =
       ends_refused (Alone Feed) source sink errors is_finished outcome refusal cause (one_more most_input_bytes source.old source.new few) tt all (r.told three)
@@ -82,6 +83,7 @@ module _ (source sink errors : StreamChange) (is_finished : Type 0) (outcome : O
         within = fed.within;
         goes_on = fed.goes_on;
         answers = fed.answered.written;
+        handed = fed.answered.handed;
         ends = e;
       })
       tt
@@ -92,4 +94,4 @@ module _ (source sink errors : StreamChange) (is_finished : Type 0) (outcome : O
   run_of_feed ends.NoMemory fed e =
       ends_wanting (Alone Feed) source sink errors is_finished outcome
       (record { taken = fed.front ++ fed.rest; takes = fed.taken; within = fed.within }) tt
-      (record { front = fed.front; rest = fed.rest; later = fed.later; takes = fed.taken; answers = fed.written; begins = fed.begins; kept = fed.kept }) e
+      (record { front = fed.front; rest = fed.rest; later = fed.later; takes = fed.taken; answers = fed.written; handed = fed.handed; begins = fed.begins; kept = fed.kept }) e

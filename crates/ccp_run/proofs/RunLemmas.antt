@@ -1,6 +1,7 @@
 -- A run's promises, from its mode's outcome and from how it then ended.
 use Rattle.std.proofs.Common.{◌≡◌, ◌≢◌, ◌≤◌, ◌⊎◌, inl, inr, ◌∙◌, ℕ, zero, suc, ◌+◌, Bool, true, false, subst, Some, None, Result, Ok, Err, List, [], length, arith, ap, sym, refl, append-nil}
 use Rattle.ccp_base.specs.Outside.{Known, Rose, Takes, TakesWithin, Appends}
+use Rattle.feed_core.specs.FeedEnds.{AreHandedOn}
 use Rattle.ccp_run.specs.declared.outcome.ModeOutput.{ModeOutput}
 use Rattle.ccp_run.specs.declared.outcome.Outcome.{Outcome}
 use Rattle.ccp_run.specs.declared.refusal.Refusal.{Refusal}
@@ -60,7 +61,7 @@ is_three (suc (suc (suc (suc n)))) = inr (λ e. omega (arith, e))
 
 module _ (task : Task) (source sink errors : StreamChange) (is_finished : Type 0) (outcome : Outcome) where
   -- out of memory, and these are the answers
-  pub ends_wanting : TakesWithin (limit_of task) source.old source.new → IsLeft (is_read task) source → WritesSomeAnswers task source sink → Ends errors outcome status.NoMemory memory_line
+  pub ends_wanting : TakesWithin (limit_of task) source.old source.new → IsLeft (is_read task) source → WritesSomeAnswers task source sink is_finished → Ends errors outcome status.NoMemory memory_line
       → IsRun task source sink errors is_finished outcome
   ends_wanting few left some e = record {
     most = one_more (limit_of task) source.old source.new few;
@@ -71,7 +72,7 @@ module _ (task : Task) (source sink errors : StreamChange) (is_finished : Type 0
   }
 
   -- the refusal was reported
-  pub ends_refused : (refusal : Refusal) → RefusesAny (is_stream task) task source refusal → TakesWithin (limit_of task + 1) source.old source.new → IsLeft (is_read task) source → WritesAnswers task source sink
+  pub ends_refused : (refusal : Refusal) → RefusesAny (is_stream task) task source refusal → TakesWithin (limit_of task + 1) source.old source.new → IsLeft (is_read task) source → WritesAnswers task source sink is_finished
       → Ends errors outcome status.InputRefused (refusal_line refusal)
       → IsRun task source sink errors is_finished outcome
   ends_refused refusal cause most left answers e = record {
@@ -83,7 +84,7 @@ module _ (task : Task) (source sink errors : StreamChange) (is_finished : Type 0
   }
 
   -- a read failed
-  pub ends_unread : IsReadFailed task source sink errors outcome → IsLeft (is_read task) source → IsRun task source sink errors is_finished outcome
+  pub ends_unread : IsReadFailed task source sink errors is_finished outcome → IsLeft (is_read task) source → IsRun task source sink errors is_finished outcome
   ends_unread failed left = record {
     most = one_more (limit_of task) source.old source.new (record { taken = failed.taken; takes = failed.takes; within = failed.within });
     left = left;
@@ -137,6 +138,7 @@ module _ (task : Task) (source sink errors : StreamChange) (is_finished : Type 0
         later = [];
         takes = takes_nothing source.old source.new same.bytes;
         answers = subst (Appends sink.old sink.new) (sym (is_mode task).begins) (appends_nothing sink.old sink.new quiet);
+        handed = inl (is_mode task).begins;
         begins = sym (append-nil (answers_before task []));
         kept = omega arith;
       })
@@ -147,16 +149,20 @@ module _ (task : Task) (plain : is_stream task ≡ false) (source sink errors : 
   no_answers : (taken : List ℕ) → sink.new ≡ sink.old → Appends sink.old sink.new (answers_before task taken)
   no_answers taken same = subst (Appends sink.old sink.new) (sym ((is_mode task).plain plain taken).0) (appends_nothing sink.old sink.new same)
 
-  answers : (taken : List ℕ) → Takes source.old source.new taken → sink.new ≡ sink.old → WritesAnswers task source sink
-  answers taken takes same = record { taken = taken; takes = takes; answers = no_answers taken same }
+  none_handed : (taken : List ℕ) → AreHandedOn (answers_before task taken) is_finished
+  none_handed taken = inl ((is_mode task).plain plain taken).0
 
-  some_answers : TakesWithin (limit_of task) source.old source.new → sink.new ≡ sink.old → WritesSomeAnswers task source sink
+  answers : (taken : List ℕ) → Takes source.old source.new taken → sink.new ≡ sink.old → WritesAnswers task source sink is_finished
+  answers taken takes same = record { taken = taken; takes = takes; answers = no_answers taken same; handed = none_handed taken }
+
+  some_answers : TakesWithin (limit_of task) source.old source.new → sink.new ≡ sink.old → WritesSomeAnswers task source sink is_finished
   some_answers few same = record {
     front = few.taken;
     rest = [];
     later = [];
     takes = subst (Takes source.old source.new) (sym (append-nil few.taken)) few.takes;
     answers = subst (Appends sink.old sink.new) (sym ((is_mode task).plain plain few.taken).0) (appends_nothing sink.old sink.new same);
+    handed = none_handed few.taken;
     begins = ap (answers_before task) (append-nil few.taken) ∙ sym (append-nil (answers_before task few.taken));
     kept = omega arith;
   }
@@ -192,6 +198,7 @@ module _ (task : Task) (plain : is_stream task ≡ false) (source sink errors : 
         within = failed.within.within;
         goes_on = ((is_mode task).plain plain taken).1;
         answers = no_answers taken same;
+        handed = none_handed taken;
         ends = e;
       })
       (is_left (is_read task) source failed.reads)

@@ -2,6 +2,7 @@
 use Rattle.std.specs.Prelude.{◌≡◌, ◌≢◌, ◌≤◌, ℕ, ◌+◌, Bool, true, false, List, ◌++◌, length}
 use Rattle.ccp_base.specs.Limits.{most_frame_bytes}
 use Rattle.ccp_base.specs.Outside.{Rose, Takes, TakesWithin, Appends, AppendsPrefix}
+use Rattle.feed_core.specs.FeedEnds.{AreHandedOn}
 use Rattle.ccp_run.specs.declared.outcome.ModeOutput.{ModeOutput}
 use Rattle.ccp_run.specs.declared.outcome.Outcome.{Outcome}
 use Rattle.ccp_run.specs.declared.refusal.Refusal.{Refusal}
@@ -33,20 +34,22 @@ abbrev pub WritesAnyFront : Bool → Task → StreamChange → StreamChange → 
 WritesAnyFront true task source sink = AnswersFront task source sink
 WritesAnyFront false task source sink = WritesFront task source sink
 
--- exactly the answers to what was taken were written, which most modes don't have
-pub record WritesAnswers (task : Task) (source sink : StreamChange) : Type 0 where
+-- exactly the answers to what was taken were written and handed on, which most modes don't have
+pub record WritesAnswers (task : Task) (source sink : StreamChange) (is_finished : Type 0) : Type 0 where
   pub taken : List ℕ
   pub takes : Takes source.old source.new taken
   pub answers : Appends sink.old sink.new (answers_before task taken)
+  pub handed : AreHandedOn (answers_before task taken) is_finished
 
--- exactly the answers to a front of what was taken were written, and those to the rest, at most a frame's bytes, would
--- follow them
-pub record WritesSomeAnswers (task : Task) (source sink : StreamChange) : Type 0 where
+-- exactly the answers to a front of what was taken were written and handed on, and those to the rest, at most a frame's
+-- bytes, would follow them
+pub record WritesSomeAnswers (task : Task) (source sink : StreamChange) (is_finished : Type 0) : Type 0 where
   pub front : List ℕ
   pub rest : List ℕ
   pub later : List ℕ
   pub takes : Takes source.old source.new (front ++ rest)
   pub answers : Appends sink.old sink.new (answers_before task front)
+  pub handed : AreHandedOn (answers_before task front) is_finished
   pub begins : answers_before task (front ++ rest) ≡ answers_before task front ++ later
   pub kept : length rest ≤ most_frame_bytes
 
@@ -60,16 +63,18 @@ pub record IsDone (task : Task) (source sink errors : StreamChange) (is_finished
   pub written : WritesAll sink errors is_finished outcome output
 
 -- 3: more bytes than the limit were taken, or the input was read to its end and has a first refusal; no output is
--- written, but for the answers to what was taken, and the line says which refusal it is
-pub record IsInputRefused (task : Task) (source sink errors : StreamChange) (outcome : Outcome) : Type 0 where
+-- written, but for the answers to what was taken, which are handed on, and the line says which refusal it is
+pub record IsInputRefused (task : Task) (source sink errors : StreamChange) (is_finished : Type 0)
+    (outcome : Outcome) : Type 0 where
   pub refusal : Refusal
   pub refused : RefusesAny (is_stream task) task source refusal
-  pub answers : WritesAnswers task source sink
+  pub answers : WritesAnswers task source sink is_finished
   pub ends : Ends errors outcome status.InputRefused (refusal_line refusal)
 
 -- 4: the task reads its source, and a read failed in this run, before what was taken was too long or refused; no output
--- is written, but for the answers to what was taken
-pub record IsReadFailed (task : Task) (source sink errors : StreamChange) (outcome : Outcome) : Type 0 where
+-- is written, but for the answers to what was taken, which are handed on
+pub record IsReadFailed (task : Task) (source sink errors : StreamChange) (is_finished : Type 0)
+    (outcome : Outcome) : Type 0 where
   pub reads : is_read task ≡ true
   pub rose : Rose source.before source.now
   pub taken : List ℕ
@@ -77,6 +82,7 @@ pub record IsReadFailed (task : Task) (source sink errors : StreamChange) (outco
   pub within : length taken ≤ limit_of task
   pub goes_on : GoesOn task taken
   pub answers : Appends sink.old sink.new (answers_before task taken)
+  pub handed : AreHandedOn (answers_before task taken) is_finished
   pub ends : Ends errors outcome status.ReadFailed read_line
 
 -- 5: a write failed in this run, and a front of the mode's output was written
@@ -86,10 +92,11 @@ pub record IsWriteFailed (task : Task) (source sink errors : StreamChange) (outc
   pub front : WritesAnyFront (is_stream task) task source sink
   pub ends : Ends errors outcome status.WriteFailed write_line
 
--- 6: out of memory; no output is written, but for the answers to a front of what was taken
-pub record IsOutOfMemory (task : Task) (source sink errors : StreamChange) (outcome : Outcome) : Type 0 where
+-- 6: out of memory; no output is written, but for the answers to a front of what was taken, which are handed on
+pub record IsOutOfMemory (task : Task) (source sink errors : StreamChange) (is_finished : Type 0)
+    (outcome : Outcome) : Type 0 where
   pub within : TakesWithin (limit_of task) source.old source.new
-  pub answers : WritesSomeAnswers task source sink
+  pub answers : WritesSomeAnswers task source sink is_finished
   pub ends : Ends errors outcome status.NoMemory memory_line
 
 -- what a run of a task did that ended with this status; it never ends as one whose words are refused
@@ -97,10 +104,12 @@ abbrev pub EndsWith : Status → Task → StreamChange → StreamChange → Stre
 EndsWith status.Done task source sink errors is_finished outcome = IsDone task source sink errors is_finished outcome
 EndsWith status.WordsRefused task source sink errors is_finished outcome = ⊥
 EndsWith status.InputRefused task source sink errors is_finished outcome =
-    IsInputRefused task source sink errors outcome
-EndsWith status.ReadFailed task source sink errors is_finished outcome = IsReadFailed task source sink errors outcome
+    IsInputRefused task source sink errors is_finished outcome
+EndsWith status.ReadFailed task source sink errors is_finished outcome =
+    IsReadFailed task source sink errors is_finished outcome
 EndsWith status.WriteFailed task source sink errors is_finished outcome = IsWriteFailed task source sink errors outcome
-EndsWith status.NoMemory task source sink errors is_finished outcome = IsOutOfMemory task source sink errors outcome
+EndsWith status.NoMemory task source sink errors is_finished outcome =
+    IsOutOfMemory task source sink errors is_finished outcome
 
 -- ---- every run
 

@@ -14,13 +14,14 @@ with-none : (f : Fed) → f ≡ with_answers [] f
 with-none f = refl
 
 -- where a feed begins
-pub feeding-first : (source sink : Known) (state : FeedState) (rest : List ℕ) → state ≡ no_flows → rest ≡ [] → IsFeeding source source sink sink state 0 rest
-feeding-first source sink state rest first none = record {
+pub feeding-first : (source sink : Known) (is_finished : Type 0) (state : FeedState) (rest : List ℕ) → state ≡ no_flows → rest ≡ [] → IsFeeding source source sink sink is_finished state 0 rest
+feeding-first source sink is_finished state rest first none = record {
   front = [];
   answers = [];
   taken = subst (Takes source source) (sym none) (takes-nothing source);
   eaten_is = refl;
   written = appends-nothing sink;
+  handed = inl refl;
   goes = λ more.
       let all : most_input_bytes ≡ most_input_bytes - 0 = omega arith in
       with-none (fed most_input_bytes 0 no_flows more)
@@ -47,6 +48,7 @@ ends-unbegun source sink rb rn wb wn is_finished = record {
   taken = takes-nothing source;
   within = omega arith;
   written = subst (Appends sink sink) (sym no-answers) (appends-nothing sink);
+  handed = inl no-answers;
   begins = sym (append-nil (answers_written []));
   whole = ap (λ (f : Fed). end_from f.tail false) nothing-fed;
   kept = omega arith;

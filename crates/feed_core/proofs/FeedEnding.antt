@@ -20,10 +20,10 @@ use Rattle.feed_core.specs.declared.flow.Flow.{Flow}
 use Rattle.feed_core.specs.Feed.{FeedState, there, no_flows, refused, created_at, counted, answer_message, TakesMemory}
 use Rattle.feed_core.specs.FeedBytes.{left, bad, Fed, answer_bytes, with_answers, fed_on, fed, feed_of}
 use Rattle.feed_core.specs.FeedTurns.{BeginsTaking, FailsOne, IsFeeding}
-use Rattle.feed_core.specs.FeedEnds.{answers_written, end_from, feed_end, stream, AnswersInput, MayGoOn, MakesFlow, TakesMemoryAt, IsFed}
+use Rattle.feed_core.specs.FeedEnds.{answers_written, end_from, feed_end, stream, AreHandedOn, AnswersInput, MayGoOn, MakesFlow, TakesMemoryAt, IsFed}
 use Rattle.feed_core.specs.FeedLast.{IsLast}
 use Rattle.feed_core.proofs.FrameEnds.{take-front, fed-part, fed-bad, fed-nothing, bad-on}
-use Rattle.feed_core.proofs.FeedEats.{some-used, fed-frame}
+use Rattle.feed_core.proofs.FeedEats.{handed-still, some-used, fed-frame}
 use Rattle.feed_core.proofs.StreamEnds.{appends-all, appends-front, rose-late}
 
 -- ---- ends
@@ -53,8 +53,8 @@ created-quiet state version n cwnd true None below free = refl
 created-quiet state version n cwnd true (Some flow) below free = let bad : ⊥ = cc in absurd bad
 created-quiet state version n cwnd false o below free = let bad : ⊥ = cc in absurd bad
 
-module _ (source source' sink sink' : Known) (state : FeedState) (eaten : ℕ) (rest : List ℕ) (feeding : IsFeeding source source' sink sink' state eaten rest)
-    (rb rn wb wn : ℕ) (is_finished : Type 0) where
+module _ (source source' sink sink' : Known) (is_finished : Type 0) (state : FeedState) (eaten : ℕ) (rest : List ℕ) (feeding : IsFeeding source source' sink sink' is_finished state eaten rest)
+    (rb rn wb wn : ℕ) where
   abbrev bytes : List ℕ
   bytes = feeding.front ++ rest
 
@@ -83,49 +83,54 @@ module _ (source source' sink sink' : Known) (state : FeedState) (eaten : ℕ) (
     answers-here : answers_written bytes ≡ feeding.answers
     answers-here = ap (λ (f : Fed). f.answers) left-here ∙ append-nil feeding.answers
 
-    all-answered : AnswersInput (stream source source' rb rn) (stream sink sink' wb wn) bytes
-    all-answered = record { taken = feeding.taken; written = subst (Appends sink sink') (sym answers-here) feeding.written }
+    -- the answers are handed on still, with a sink that was touched later
+    all-answered : (now_finished : Type 0) → AreHandedOn feeding.answers now_finished → AnswersInput (stream source source' rb rn) (stream sink sink' wb wn) now_finished bytes
+    all-answered now_finished handed = record {
+      taken = feeding.taken;
+      written = subst (Appends sink sink') (sym answers-here) feeding.written;
+      handed = subst (λ (xs : List ℕ). AreHandedOn xs now_finished) (sym answers-here) handed;
+    }
 
     end-here : feed_end bytes ≡ end_from (left eaten rest) false
     end-here = ap (λ (f : Fed). end_from f.tail (nat_lt most_input_bytes (length bytes))) left-here ∙ ap (end_from (left eaten rest)) (not-longer (length bytes) fits)
 
     -- the source was read to its end
-    pub ends-last : IsAtEnd source' → (wm : ℕ) → wb ≤ wm → wm ≤ wn → (end : FeedEnd) → IsLast wm wn is_finished eaten (length rest) end
-        → IsFed (stream source source' rb rn) (stream sink sink' wb wn) is_finished end
-    ends-last at_end wm first grown ends.Whole last = (
+    pub ends-last : IsAtEnd source' → (now_finished : Type 0) (wm : ℕ) → wb ≤ wm → wm ≤ wn → (end : FeedEnd) → IsLast wm wn is_finished now_finished eaten (length rest) end
+        → IsFed (stream source source' rb rn) (stream sink sink' wb wn) now_finished end
+    ends-last at_end now_finished wm first grown ends.Whole last = (
       record {
         bytes = bytes;
-        answered = all-answered;
+        answered = all-answered now_finished (inr last.1);
         at_end = at_end;
         within = fits;
         end_is = end-here ∙ end-none eaten rest last.0;
       },
       last.1,
     )
-    ends-last at_end wm first grown (ends.Cut place) last = record {
+    ends-last at_end now_finished wm first grown (ends.Cut place) last = record {
       bytes = bytes;
-      answered = all-answered;
+      answered = all-answered now_finished (handed-still feeding.answers is_finished now_finished feeding.handed last.2);
       at_end = at_end;
       within = fits;
       end_is = end-here ∙ end-some eaten rest last.0 ∙ ap ends.Cut (sym last.1);
     }
-    ends-last at_end wm first grown ends.WriteFailed last = record {
+    ends-last at_end now_finished wm first grown ends.WriteFailed last = record {
       bytes = bytes;
       taken = feeding.taken;
       within = fits;
       rose = rose-late wb wm wn first last.1 grown;
-      front = appends-all sink sink' (answers_written bytes) all-answered.written;
+      front = appends-all sink sink' (answers_written bytes) (subst (Appends sink sink') (sym answers-here) feeding.written);
     }
-    ends-last at_end wm first grown (ends.Bad field place) last = absurd last
-    ends-last at_end wm first grown ends.TooLong last = absurd last
-    ends-last at_end wm first grown ends.ReadFailed last = absurd last
-    ends-last at_end wm first grown ends.NoMemory last = absurd last
+    ends-last at_end now_finished wm first grown (ends.Bad field place) last = absurd last
+    ends-last at_end now_finished wm first grown ends.TooLong last = absurd last
+    ends-last at_end now_finished wm first grown ends.ReadFailed last = absurd last
+    ends-last at_end now_finished wm first grown ends.NoMemory last = absurd last
 
     -- a read failed
     pub ends-unread : (rm : ℕ) → rb ≤ rm → rm ≤ rn → Rose rm rn → IsFed (stream source source' rb rn) (stream sink sink' wb wn) is_finished ends.ReadFailed
     ends-unread rm first grown rose = record {
       bytes = bytes;
-      answered = all-answered;
+      answered = all-answered is_finished feeding.handed;
       within = fits;
       rose = rose-late rb rm rn first rose grown;
       goes_on = subst MayGoOn (sym end-here) (is-open eaten rest);
@@ -151,6 +156,7 @@ module _ (source source' sink sink' : Known) (state : FeedState) (eaten : ℕ) (
           answered = record {
             taken = Takes-append source source' source'' bytes piece feeding.taken takes;
             written = subst (Appends sink sink') (sym now) feeding.written;
+            handed = subst (λ (xs : List ℕ). AreHandedOn xs is_finished) (sym now) feeding.handed;
           };
           within = omega (arith, long, one, length-append bytes piece);
           end_is = λ more.
@@ -174,7 +180,11 @@ module _ (source source' sink sink' : Known) (state : FeedState) (eaten : ℕ) (
       let now : answers_written bytes ≡ feeding.answers = ap answers_written (sym (append-nil bytes)) ∙ answers [] in
       record {
         bytes = bytes;
-        answered = record { taken = feeding.taken; written = subst (Appends sink sink') (sym now) feeding.written };
+        answered = record {
+          taken = feeding.taken;
+          written = subst (Appends sink sink') (sym now) feeding.written;
+          handed = subst (λ (xs : List ℕ). AreHandedOn xs is_finished) (sym now) feeding.handed;
+        };
         within = fits;
         end_is = λ more. ap (λ (f : Fed). end_from f.tail (nat_lt most_input_bytes (length (bytes ++ more)))) (again more);
         no_more = λ more. answers more ∙ sym now;
@@ -182,9 +192,9 @@ module _ (source source' sink sink' : Known) (state : FeedState) (eaten : ℕ) (
 
   -- ---- if a write fails
 
-  pub ends-unwritten : (sink'' : Known) (wm : ℕ) → wb ≤ wm → wm ≤ wn → FailsOne wm wn sink' sink'' state rest
-      → IsFed (stream source source' rb rn) (stream sink sink'' wb wn) is_finished ends.WriteFailed
-  ends-unwritten sink'' wm first grown fails =
+  pub ends-unwritten : (sink'' : Known) (now_finished : Type 0) (wm : ℕ) → wb ≤ wm → wm ≤ wn → FailsOne wm wn sink' sink'' state rest
+      → IsFed (stream source source' rb rn) (stream sink sink'' wb wn) now_finished ends.WriteFailed
+  ends-unwritten sink'' now_finished wm first grown fails =
       let some : 0 < fails.used = fails.some in
       let used : fails.used ≤ length rest = fails.within in
       let fuel : frames ≡ suc (frames - 1) = omega (arith, some, used, feeding.few, feeding.within) in
@@ -276,6 +286,7 @@ module _ (source source' sink sink' : Known) (state : FeedState) (eaten : ℕ) (
     taken = feeding.taken;
     within = fits;
     written = subst (Appends sink sink') (sym front-answers) feeding.written;
+    handed = subst (λ (xs : List ℕ). AreHandedOn xs is_finished) (sym front-answers) feeding.handed;
     begins = ap (λ (f : Fed). f.answers) here ∙ ap (λ xs. xs ++ (fed frames eaten state rest).answers) (sym front-answers);
     whole = ap (λ (f : Fed). end_from f.tail (nat_lt most_input_bytes (length feeding.front))) front-here
         ∙ ap (end_from (left eaten [])) (not-longer (length feeding.front) short);

@@ -12,7 +12,7 @@ use Rattle.ccp_messages.specs.declared.fault.DecodeFault.{DecodeFault}
 use Rattle.ccp_messages.specs.declared.fault.DecodeFault.TheVariants.{More, Bad, NoMemory}
 use Rattle.ccp_messages.specs.Decoding.{Found, decoded_of, IsDecoded, BeginsInstall}
 use Rattle.feed_core.specs.Feed.{FeedState}
-use Rattle.feed_core.specs.FeedTurns.{without_frame, IsTurn}
+use Rattle.feed_core.specs.FeedTurns.{without_frame, IsTurn, KeepsFinished}
 
 -- a refusal other than out of memory is what decoding gives
 pub told-fault : (result answer : Result Found DecodeFault) (fault : DecodeFault) → IsDecoded result answer → result ≡ Err fault → fault ≢ NoMemory → answer ≡ Err fault
@@ -34,22 +34,28 @@ cut-short bytes fits cut =
     omega (arith, long, length-append bytes cut.more, some-more cut.more cut.some)
 
 -- bytes that don't begin with a frame
-pub turns-without : (faults : ℕ) (written : Known) (state : FeedState) (bytes : List ℕ) → AllBytes bytes
+pub turns-without : (faults : ℕ) (is_finished : Type 0) (written : Known) (state : FeedState) (bytes : List ℕ) → AllBytes bytes
     → (result : Result Found DecodeFault) → IsDecoded result (decoded_of bytes)
     → ((n : ℕ) → result ≡ Err (More n) → IsFrameFront bytes × (n ≡ needed_of bytes))
     → ((field : BadKind) (place : ℕ) → result ≡ Err (Bad field place) → IsBadIn bytes field place)
     → (result ≡ Err NoMemory → BeginsInstall bytes)
-    → (fault : DecodeFault) → result ≡ Err fault → IsTurn faults faults written written state state bytes (without_frame fault)
-turns-without faults written state bytes fits result told more bad memory (More n) is = record {
+    → (fault : DecodeFault) → result ≡ Err fault → IsTurn faults faults is_finished written written state state bytes (without_frame fault)
+turns-without faults is_finished written state bytes fits result told more bad memory (More n) is = record {
   needed = n;
   more = told-fault result (decoded_of bytes) (More n) told is (λ (e : More n ≡ NoMemory). cc);
   short = cut-short bytes fits (more n is).0;
   same = refl;
   nothing = refl;
 }
-turns-without faults written state bytes fits result told more bad memory (Bad field place) is = (
+turns-without faults is_finished written state bytes fits result told more bad memory (Bad field place) is = (
   told-fault result (decoded_of bytes) (Bad field place) told is (λ (e : Bad field place ≡ NoMemory). cc),
   (bad field place is).0.within,
   refl,
 )
-turns-without faults written state bytes fits result told more bad memory NoMemory is = record { cause = inl (memory is); nothing = refl }
+turns-without faults is_finished written state bytes fits result told more bad memory NoMemory is = record { cause = inl (memory is); nothing = refl }
+
+-- they leave the sink as it was
+pub keeps-without : (is_finished : Type 0) (fault : DecodeFault) → KeepsFinished is_finished is_finished (without_frame fault)
+keeps-without is_finished (More n) = λ finished. finished
+keeps-without is_finished (Bad field place) = λ finished. finished
+keeps-without is_finished NoMemory = λ finished. finished

@@ -37,23 +37,28 @@ pub record Stream : Type 0 where
 abbrev pub stream : Known → Known → ℕ → ℕ → Stream
 stream old new before now = record { old = old; new = new; before = before; now = now }
 
--- these bytes were taken, and exactly the answers to the frames that they begin with were written
-pub record AnswersInput (source sink : Stream) (bytes : List ℕ) : Type 0 where
+-- the answers were handed on: if there are any, the sink is finished
+abbrev pub AreHandedOn : List ℕ → Type 0 → Type 0
+AreHandedOn answers is_finished = (answers ≡ []) ⊎ is_finished
+
+-- these bytes were taken, and exactly the answers to the frames that they begin with were written and handed on
+pub record AnswersInput (source sink : Stream) (is_finished : Type 0) (bytes : List ℕ) : Type 0 where
   pub taken : Takes source.old source.new bytes
   pub written : Appends sink.old sink.new (answers_written bytes)
+  pub handed : AreHandedOn (answers_written bytes) is_finished
 
 -- the source was read to its end, and the input ends so
-pub record EndsThere (source sink : Stream) (end : FeedEnd) : Type 0 where
+pub record EndsThere (source sink : Stream) (is_finished : Type 0) (end : FeedEnd) : Type 0 where
   pub bytes : List ℕ
-  pub answered : AnswersInput source sink bytes
+  pub answered : AnswersInput source sink is_finished bytes
   pub at_end : IsAtEnd source.new
   pub within : length bytes ≤ most_input_bytes
   pub end_is : feed_end bytes ≡ end
 
 -- the input ends so whatever follows what was taken of it, and has no further answers
-pub record EndsBefore (limit : ℕ) (source sink : Stream) (end : FeedEnd) : Type 0 where
+pub record EndsBefore (limit : ℕ) (source sink : Stream) (is_finished : Type 0) (end : FeedEnd) : Type 0 where
   pub bytes : List ℕ
-  pub answered : AnswersInput source sink bytes
+  pub answered : AnswersInput source sink is_finished bytes
   pub within : length bytes ≤ limit
   pub end_is : (more : List ℕ) → feed_end (bytes ++ more) ≡ end
   pub no_more : (more : List ℕ) → answers_written (bytes ++ more) ≡ answers_written bytes
@@ -65,9 +70,9 @@ MayGoOn (Cut place) = Unit {0}
 MayGoOn _ = ⊥
 
 -- a read failed, and all frames that were whole before it are answered
-pub record FeedFailsToRead (source sink : Stream) : Type 0 where
+pub record FeedFailsToRead (source sink : Stream) (is_finished : Type 0) : Type 0 where
   pub bytes : List ℕ
-  pub answered : AnswersInput source sink bytes
+  pub answered : AnswersInput source sink is_finished bytes
   pub within : length bytes ≤ most_input_bytes
   pub rose : Rose source.before source.now
   pub goes_on : MayGoOn (feed_end bytes)
@@ -94,15 +99,16 @@ pub record MakesFlow (front rest : List ℕ) : Type 0 where
 abbrev pub TakesMemoryAt : List ℕ → List ℕ → Type 0
 TakesMemoryAt front rest = (front ++ rest ≡ []) ⊎ (BeginsInstall rest ⊎ MakesFlow front rest)
 
--- out of memory: exactly the answers to the front are written, whose frames are whole, and the rest of what was taken,
--- at most a frame's bytes, begins with what takes memory
-pub record FeedLacksMemory (source sink : Stream) : Type 0 where
+-- out of memory: exactly the answers to the front are written and handed on, whose frames are whole, and the rest of
+-- what was taken, at most a frame's bytes, begins with what takes memory
+pub record FeedLacksMemory (source sink : Stream) (is_finished : Type 0) : Type 0 where
   pub front : List ℕ
   pub rest : List ℕ
   pub later : List ℕ
   pub taken : Takes source.old source.new (front ++ rest)
   pub within : length (front ++ rest) ≤ most_input_bytes
   pub written : Appends sink.old sink.new (answers_written front)
+  pub handed : AreHandedOn (answers_written front) is_finished
   pub begins : answers_written (front ++ rest) ≡ answers_written front ++ later
   pub whole : feed_end front ≡ Whole
   pub kept : length rest ≤ most_frame_bytes
@@ -110,10 +116,10 @@ pub record FeedLacksMemory (source sink : Stream) : Type 0 where
 
 -- what each end of a feed says
 abbrev pub IsFed : Stream → Stream → Type 0 → FeedEnd → Type 0
-IsFed source sink is_finished Whole = EndsThere source sink Whole × is_finished
-IsFed source sink is_finished (Bad field place) = EndsBefore most_input_bytes source sink (Bad field place)
-IsFed source sink is_finished (Cut place) = EndsThere source sink (Cut place)
-IsFed source sink is_finished TooLong = EndsBefore (most_input_bytes + 1) source sink TooLong
-IsFed source sink is_finished ReadFailed = FeedFailsToRead source sink
+IsFed source sink is_finished Whole = EndsThere source sink is_finished Whole × is_finished
+IsFed source sink is_finished (Bad field place) = EndsBefore most_input_bytes source sink is_finished (Bad field place)
+IsFed source sink is_finished (Cut place) = EndsThere source sink is_finished (Cut place)
+IsFed source sink is_finished TooLong = EndsBefore (most_input_bytes + 1) source sink is_finished TooLong
+IsFed source sink is_finished ReadFailed = FeedFailsToRead source sink is_finished
 IsFed source sink is_finished WriteFailed = FeedFailsToWrite source sink
-IsFed source sink is_finished NoMemory = FeedLacksMemory source sink
+IsFed source sink is_finished NoMemory = FeedLacksMemory source sink is_finished

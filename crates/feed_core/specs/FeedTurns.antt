@@ -11,9 +11,11 @@ use Rattle.feed_core.specs.declared.turn.Turn.{Turn}
 use Rattle.feed_core.specs.declared.turn.Turn.TheVariants as turn
 use Rattle.feed_core.specs.Feed.{FeedState, no_flows, answer_message, TakesMemory}
 use Rattle.feed_core.specs.FeedBytes.{answer_bytes, with_answers, fed}
+use Rattle.feed_core.specs.FeedEnds.{AreHandedOn}
 
--- a frame begins the bytes, and its whole answer was written
-pub record AnswersOne (old new : Known) (state state' : FeedState) (bytes : List ℕ) (used : ℕ) : Type 0 where
+-- a frame begins the bytes, and its whole answer was written and handed on
+pub record AnswersOne (is_finished : Type 0) (old new : Known) (state state' : FeedState) (bytes : List ℕ)
+    (used : ℕ) : Type 0 where
   pub message : Message
   pub version : Version
   pub begins : Begins bytes message version used
@@ -22,6 +24,7 @@ pub record AnswersOne (old new : Known) (state state' : FeedState) (bytes : List
   pub next : (answer_message state message version).1 ≡ state'
   pub counted : state'.messages ≡ state.messages + 1
   pub written : Appends old new (answer_bytes (answer_message state message version).0)
+  pub handed : AreHandedOn (answer_bytes (answer_message state message version).0) is_finished
 
 -- a frame begins the bytes, and a write of its answer failed
 pub record FailsOne (before now : ℕ) (old new : Known) (state : FeedState) (bytes : List ℕ) : Type 0 where
@@ -61,21 +64,30 @@ pub record LacksMemory (old new : Known) (state : FeedState) (bytes : List ℕ) 
   pub cause : BeginsInstall bytes ⊎ BeginsTaking state bytes
   pub nothing : new ≡ old
 
-abbrev pub IsTurn : (before now : ℕ) (old new : Known) (state state' : FeedState) (bytes : List ℕ) → Turn → Type 0
-IsTurn before now old new state state' bytes (turn.Answered used) = AnswersOne old new state state' bytes used
-IsTurn before now old new state state' bytes turn.Part = IsPart old new state state' bytes
-IsTurn before now old new state state' bytes (turn.Bad field offset) =
+abbrev pub IsTurn : (before now : ℕ) (is_finished : Type 0) (old new : Known) (state state' : FeedState) (bytes : List ℕ) → Turn → Type 0
+IsTurn before now is_finished old new state state' bytes (turn.Answered used) =
+    AnswersOne is_finished old new state state' bytes used
+IsTurn before now is_finished old new state state' bytes turn.Part = IsPart old new state state' bytes
+IsTurn before now is_finished old new state state' bytes (turn.Bad field offset) =
     (decoded_of bytes ≡ Err (Bad field offset)) × (offset < length bytes) × (new ≡ old)
-IsTurn before now old new state state' bytes turn.WriteFailed = FailsOne before now old new state bytes
-IsTurn before now old new state state' bytes turn.NoMemory = LacksMemory old new state bytes
+IsTurn before now is_finished old new state state' bytes turn.WriteFailed = FailsOne before now old new state bytes
+IsTurn before now is_finished old new state state' bytes turn.NoMemory = LacksMemory old new state bytes
 
--- how far a feed has come: what it took and wrote, its state, and the bytes after the frames that it has answered
-pub record IsFeeding (source source' sink sink' : Known) (state : FeedState) (eaten : ℕ) (rest : List ℕ) : Type 0 where
+-- a sink that was finished is finished, unless a write failed
+abbrev pub KeepsFinished : (was_finished is_finished : Type 0) → Turn → Type 0
+KeepsFinished was_finished is_finished turn.WriteFailed = Unit {0}
+KeepsFinished was_finished is_finished _ = was_finished → is_finished
+
+-- how far a feed has come: what it took, wrote and handed on, its state, and the bytes after the frames that it has
+-- answered
+pub record IsFeeding (source source' sink sink' : Known) (is_finished : Type 0) (state : FeedState) (eaten : ℕ)
+    (rest : List ℕ) : Type 0 where
   pub front : List ℕ
   pub answers : List ℕ
   pub taken : Takes source source' (front ++ rest)
   pub eaten_is : length front ≡ eaten
   pub written : Appends sink sink' answers
+  pub handed : AreHandedOn answers is_finished
   pub goes : (more : List ℕ) → fed most_input_bytes 0 no_flows (front ++ more)
       ≡ with_answers answers (fed (most_input_bytes - state.messages) eaten state more)
   pub few : state.messages ≤ eaten

@@ -7,6 +7,7 @@ ghost use Rattle.feed_core.specs.Feed.{answer_message, TakesMemory};
 ghost use Rattle.feed_core.specs.FeedHolds.{longest_answer};
 ghost use Rattle.ccp_messages.specs.Messages.{Meets, frame_bytes};
 ghost use Rattle.feed_core.specs.FeedBytes.{answer_to};
+ghost use Rattle.feed_core.specs.FeedEnds.{AreHandedOn};
 ghost use Rattle.feed_core.specs.FeedStops.{StopsAnswer};
 
 use crate::feed::Feed;
@@ -37,7 +38,7 @@ impl From<NoMemory> for Unanswered {
     }
 }
 
-/// Answers a message, and writes the answer. Only a Create of a flow that doesn't exist takes memory.
+/// Answers a message, and writes the answer and hands it on. Only a Create of a flow that doesn't exist takes memory.
 pub fn answer<K: Sink>(
     alloc: Global,
     feed: &mut Feed,
@@ -50,10 +51,13 @@ pub fn answer<K: Sink>(
     ensures one { OnOk result (feed.new.messages ≡ feed.old.messages + 1) }
     ensures written { OnOk result
         (Appends (K.written sink.old) (K.written sink.new) (answer_to feed.old message version)) }
+    ensures handed { OnOk result (AreHandedOn (answer_to feed.old message version) (K.is_finished sink.new)) }
+    ensures kept { OnOk result (K.is_finished sink.old → K.is_finished sink.new) }
     ensures counted { K.faults sink.old ≤ K.faults sink.new }
     ensures err { IfErr result (StopsAnswer (K.faults sink.old) (K.faults sink.new)
         (K.written sink.old) (K.written sink.new) (answer_to feed.old message version)) }
     ensures memory { result ≡ Err Unanswered.NoMemory → TakesMemory feed.old message }
+    ensures untouched { result ≡ Err Unanswered.NoMemory → sink.new ≡ sink.old }
 {
     match feed.frame(alloc, message, version)? {
         None => Ok(()),
@@ -61,12 +65,13 @@ pub fn answer<K: Sink>(
     }
 }
 
-/// Writes the frame of a message.
+/// Writes the frame of a message, and hands it on.
 fn write<K: Sink>(sink: &mut K, message: &Message, version: Version) -> Result<(), Unanswered>
     requires meets { Meets version message.now }
     requires fits { length (frame_bytes version message.now) ≤ longest_answer }
     ensures written { OnOk result
         (Appends (K.written sink.old) (K.written sink.new) (frame_bytes version message.now)) }
+    ensures finished { OnOk result (K.is_finished sink.new) }
     ensures counted { K.faults sink.old ≤ K.faults sink.new }
     ensures err { IfErr result (StopsAnswer (K.faults sink.old) (K.faults sink.new)
         (K.written sink.old) (K.written sink.new) (frame_bytes version message.now)) }

@@ -15,7 +15,8 @@ use std::alloc::Global;
 /// The bytes of the longest input.
 const LIMIT: usize = 1048576;
 
-/// Answers the frames of an input, in whatever pieces they come; the answers depend only on the bytes. Memory can run
+/// Answers the frames of an input, in whatever pieces they come; the answers depend only on the bytes, and are handed
+/// on unless a write fails. Memory can run
 /// out only for the feed itself, for the code of an Install, or for the flow of a Create; then the answers to all
 /// frames before it are written, and at most a frame's bytes were read beyond them.
 pub fn feed<S: Source, K: Sink>(alloc: Global, source: &mut S, sink: &mut K) -> FeedEnd
@@ -58,7 +59,8 @@ pub fn feed<S: Source, K: Sink>(alloc: Global, source: &mut S, sink: &mut K) -> 
 fn at_end<K: Sink>(sink: &mut K, place: usize, left: usize) -> FeedEnd
     ensures counted { K.faults sink.old ≤ K.faults sink.new }
     ensures kept { K.written sink.new ≡ K.written sink.old }
-    ensures last { IsLast (K.faults sink.old) (K.faults sink.new) (K.is_finished sink.new) place left result }
+    ensures last { IsLast (K.faults sink.old) (K.faults sink.new)
+        (K.is_finished sink.old) (K.is_finished sink.new) place left result }
 {
     if left > 0 {
         return FeedEnd::Cut(place as u64);

@@ -2,7 +2,7 @@
 
 ghost use Rattle.std.specs.Prelude.{◌≡◌, ◌+◌, ◌≤◌, length};
 ghost use Rattle.ccp_base.specs.Limits.{most_messages};
-ghost use Rattle.feed_core.specs.FeedTurns.{without_frame, IsTurn};
+ghost use Rattle.feed_core.specs.FeedTurns.{without_frame, IsTurn, KeepsFinished};
 
 use crate::answering::{Unanswered, answer};
 use crate::feed::Feed;
@@ -39,8 +39,9 @@ fn without_frame(fault: DecodeFault) -> Turn
 pub fn next_frame<K: Sink>(alloc: Global, feed: &mut Feed, bytes: &[u8], sink: &mut K) -> Turn
     requires few { feed.old.messages + length bytes.now ≤ most_messages }
     ensures counted { K.faults sink.old ≤ K.faults sink.new }
-    ensures turn { IsTurn (K.faults sink.old) (K.faults sink.new) (K.written sink.old) (K.written sink.new)
-        feed.old feed.new bytes.now result }
+    ensures turn { IsTurn (K.faults sink.old) (K.faults sink.new) (K.is_finished sink.new)
+        (K.written sink.old) (K.written sink.new) feed.old feed.new bytes.now result }
+    ensures kept { KeepsFinished (K.is_finished sink.old) (K.is_finished sink.new) result }
 {
     match decode(alloc, bytes) {
         Ok((message, version, used)) => match answer(alloc, feed, message, version, sink) {

@@ -1,9 +1,10 @@
-use Rattle.std.proofs.Common.{◌≡◌, ◌∙◌, List, ℕ, OnOk, IfErr, ap, sym, subst}
+use Rattle.std.proofs.Common.{◌≡◌, inl, inr, ◌∙◌, List, ℕ, OnOk, IfErr, ap, sym, subst}
 use Rattle.ccp_base.specs.Outside.{Appends}
 use Rattle.ccp_messages.specs.Messages.{frame_bytes}
 use Rattle.feed_core.specs.Feed.{MessageAnswer, answer_message}
 use Rattle.feed_core.specs.FeedBytes.{answer_bytes}
 use Rattle.feed_core.specs.FeedStops.{StopsAnswer}
+use Rattle.feed_core.proofs.StreamEnds.{on-success}
 use Rattle.feed_core.proofs.answering.answer.Goals as goal
 
 pub returns-in-Some-clause-written : goal.returns-in-Some-clause-written
@@ -17,3 +18,13 @@ returns-in-Some-clause-err g c =
     let same : answer_bytes (answer_message c.args.feed.now c.args.message c.args.version).0 ≡ frame_bytes c.in-Some.version c.in-Some.message =
     sym (ap (λ (a : MessageAnswer). answer_bytes a.0) c.in_ok-frame.ensures.answered) ∙ ap answer_bytes c.in-Some.is in
     subst (λ (bytes : List ℕ). IfErr c.write.result (StopsAnswer (g.K.Sink.faults c.args.sink.now) (g.K.Sink.faults c.write.new.sink) (g.K.Sink.written c.args.sink.now) (g.K.Sink.written c.write.new.sink) bytes)) (sym same) c.write.ensures.err
+
+pub returns-in-None-clause-handed : goal.returns-in-None-clause-handed
+returns-in-None-clause-handed g c =
+    inl (sym (ap (λ (a : MessageAnswer). answer_bytes a.0) c.in_ok-frame.ensures.answered) ∙ ap answer_bytes c.in-None.is)
+
+pub returns-in-Some-clause-handed : goal.returns-in-Some-clause-handed
+returns-in-Some-clause-handed g c = on-success c.write.result (λ finished. inr finished) c.write.ensures.finished
+
+pub returns-in-Some-clause-kept : goal.returns-in-Some-clause-kept
+returns-in-Some-clause-kept g c = on-success c.write.result (λ finished was. finished) c.write.ensures.finished

@@ -9,7 +9,7 @@ invariant-loop-used g l = record {
   reads : g.S.Source.faults l.initial.source ≤ g.S.Source.faults l.source;
   writes : g.K.Sink.faults l.initial.sink ≤ g.K.Sink.faults l.sink;
   feeding : IsFeeding (g.S.Source.remaining l.initial.source) (g.S.Source.remaining l.source)
-      (g.K.Sink.written l.initial.sink) (g.K.Sink.written l.sink) l.feed l.eaten (between l.rest.bytes l.rest.start l.rest.end);
+      (g.K.Sink.written l.initial.sink) (g.K.Sink.written l.sink) (g.K.Sink.is_finished l.sink) l.feed l.eaten (between l.rest.bytes l.rest.start l.rest.end);
 }
 
 abbrev pub decreases-loop-used : goal.decreases-loop-used

@@ -1,7 +1,7 @@
 use Rattle.std.proofs.Common.{rules, inr, sym, subst, arith}
-use Rattle.feed_core.specs.FeedTurns.{IsTurn}
+use Rattle.feed_core.specs.FeedTurns.{IsTurn, KeepsFinished}
 use Rattle.feed_core.proofs.FeedEats.{some-used}
-use Rattle.feed_core.proofs.TurnLemmas.{turns-without}
+use Rattle.feed_core.proofs.TurnLemmas.{turns-without, keeps-without}
 use Rattle.feed_core.proofs.turn.next_frame.Goals as goal
 
 pub returns-in-Ok-answer-clause-turn : goal.returns-in-Ok-answer-clause-turn
@@ -16,13 +16,14 @@ returns-in-Ok-answer-clause-turn g c =
       next = sym c.in-Ok-answer.ensures.state;
       counted = c.in-Ok-answer.ensures.one;
       written = c.in-Ok-answer.ensures.written;
+      handed = c.in-Ok-answer.ensures.handed;
     }
 
 pub returns-in-Err-clause-turn : goal.returns-in-Err-clause-turn
 returns-in-Err-clause-turn g c =
-    subst (IsTurn (g.K.Sink.faults c.args.sink.now) (g.K.Sink.faults c.args.sink.now) (g.K.Sink.written c.args.sink.now) (g.K.Sink.written c.args.sink.now) c.args.feed.now c.args.feed.now c.args.bytes.now)
+    subst (IsTurn (g.K.Sink.faults c.args.sink.now) (g.K.Sink.faults c.args.sink.now) (g.K.Sink.is_finished c.args.sink.now) (g.K.Sink.written c.args.sink.now) (g.K.Sink.written c.args.sink.now) c.args.feed.now c.args.feed.now c.args.bytes.now)
     (sym c.without_frame.ensures)
-    (turns-without (g.K.Sink.faults c.args.sink.now) (g.K.Sink.written c.args.sink.now) c.args.feed.now c.args.bytes.now (λ i. omega (arith, c.type_inv.bytes i))
+    (turns-without (g.K.Sink.faults c.args.sink.now) (g.K.Sink.is_finished c.args.sink.now) (g.K.Sink.written c.args.sink.now) c.args.feed.now c.args.bytes.now (λ i. omega (arith, c.type_inv.bytes i))
     c.decode.result c.decode.ensures.told c.decode.ensures.more c.decode.ensures.bad c.decode.ensures.memory c.in-Err.fault c.in-Err.is)
 
 pub returns-in-Err-NoMemory-clause-turn : goal.returns-in-Err-NoMemory-clause-turn
@@ -36,3 +37,12 @@ returns-in-Err-NoMemory-clause-turn g c = record {
   });
   nothing = search rules;
 }
+
+pub returns-in-Err-clause-kept : goal.returns-in-Err-clause-kept
+returns-in-Err-clause-kept g c =
+    subst (KeepsFinished (g.K.Sink.is_finished c.args.sink.now) (g.K.Sink.is_finished c.args.sink.now)) (sym c.without_frame.ensures)
+    (keeps-without (g.K.Sink.is_finished c.args.sink.now) c.in-Err.fault)
+
+pub returns-in-Err-NoMemory-clause-kept : goal.returns-in-Err-NoMemory-clause-kept
+returns-in-Err-NoMemory-clause-kept g c =
+    subst (λ sink. g.K.Sink.is_finished sink) (sym (c.answer.ensures.untouched (search rules)))
