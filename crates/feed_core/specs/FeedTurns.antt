@@ -64,7 +64,8 @@ pub record LacksMemory (old new : Known) (state : FeedState) (bytes : List ℕ) 
   pub cause : BeginsInstall bytes ⊎ BeginsTaking state bytes
   pub nothing : new ≡ old
 
-abbrev pub IsTurn : (before now : ℕ) (is_finished : Type 0) (old new : Known) (state state' : FeedState) (bytes : List ℕ) → Turn → Type 0
+abbrev pub IsTurn : (before now : ℕ) (is_finished : Type 0) (old new : Known) (state state' : FeedState)
+    (bytes : List ℕ) → Turn → Type 0
 IsTurn before now is_finished old new state state' bytes (turn.Answered used) =
     AnswersOne is_finished old new state state' bytes used
 IsTurn before now is_finished old new state state' bytes turn.Part = IsPart old new state state' bytes
