@@ -167,13 +167,13 @@ def test_figures_of_the_page(program: Path, tmp_path: Path) -> None:
 def test_figures_of_senders_like_linux(program: Path, tmp_path: Path) -> None:
     """The columns of the table before and after that `ccp` measures."""
     wanted = [line.strip("|\n ").split(" | ") for line in PAGE.open(encoding="utf-8") if BEFORE_AND_AFTER.match(line)]
-    assert len(wanted) == 20
+    assert len(wanted) == 24
     found: Dict[Tuple[str, str, str], Figures] = {}
     for trace, queue, ms, sender, figure, *cells in wanted:
         if (trace, queue, ms) not in found:
             words = ["--queue", queue, "--delay-ms", ms, "--acks", 30000, EXAMPLES / "traces" / (trace + ".trace")]
             found[trace, queue, ms] = measured(tmp_path, ["reno", "linux-reno", "cubic", "linux-cubic"], *words)
-        at = ["Mbit/s", "used %", "lost packets", "mean wait ms", "p95 wait ms"].index(figure)
+        at = ["Mbit/s", "used %", "lost packets", "wait", "p95"].index(figure)
         rows = found[trace, queue, ms]
         assert cells[:2] == [rows[trace, name].split()[at] for name in (sender, "linux-" + sender)], (trace, queue, ms)
 

@@ -33,7 +33,7 @@ def times(text: str) -> List[int]:
 
 
 def info(*words: object, given: str | None = None) -> Dict[str, Any]:
-    found: Dict[str, Any] = json.loads(made("info", "--json", *words, given=given))[0]
+    found: Dict[str, Any] = json.loads(made("info", "--quiet", "--json", *words, given=given))[0]
     return found
 
 
@@ -82,7 +82,8 @@ def test_info() -> None:
     small = info("--window", "5", "-", given="1\n1\n3\n5\n10\n")
     assert (small["mean_mbps"], small["window_most_mbps"], small["window_least_mbps"]) == (6, 9.6, 2.4)
     assert small["gap_most_ms"] == 5
-    assert "mean_mbps             15.9" in made("info", TRACES[2])
+    shown = trace("info", TRACES[2])
+    assert "mean_mbps             15.9" in shown.output and "3 gaps longer than 200 ms" in shown.errors
 
 
 def test_cut() -> None:
