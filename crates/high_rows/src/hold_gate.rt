@@ -73,22 +73,16 @@ impl Passed {
     }
 }
 
-/// A gate with holds, which counts what workers pass.
+/// How often workers passed each point. It holds no reference, so that the borrow checker covers its calls.
 #[derive(Drop)]
-pub(crate) struct HoldGate {
+struct Counts {
     workers: [Passed; WORKERS],
     all: Passed,
-    holds: &'static [Waiting],
-    /// How many holds ended in time.
-    held: AtomicU64,
-    /// How many did not, and how often a worker reached a moment of theirs with another number.
-    failed: AtomicU64,
 }
 
-impl HoldGate {
-    /// A gate with these holds.
-    pub(crate) fn new(holds: &'static [Waiting]) -> HoldGate {
-        HoldGate {
+impl Counts {
+    fn new() -> Counts {
+        Counts {
             workers: [
                 Passed::new(),
                 Passed::new(),
@@ -100,6 +94,41 @@ impl HoldGate {
                 Passed::new(),
             ],
             all: Passed::new(),
+        }
+    }
+
+    /// The counts of a worker, or of all of them.
+    fn of(&self, worker: u32) -> &Passed {
+        let place = worker as usize;
+        if place < WORKERS {
+            &self.workers[place]
+        } else {
+            &self.all
+        }
+    }
+
+    /// How often a worker passed this point, or all of them.
+    fn count_at(&self, worker: u32, point: Point) -> &AtomicU64 {
+        self.of(worker).count_at(point)
+    }
+}
+
+/// A gate with holds, which counts what workers pass.
+#[derive(Drop)]
+pub(crate) struct HoldGate {
+    counts: Counts,
+    holds: &'static [Waiting],
+    /// How many holds ended in time.
+    held: AtomicU64,
+    /// How many did not, and how often a worker reached a moment of theirs with another number.
+    failed: AtomicU64,
+}
+
+impl HoldGate {
+    /// A gate with these holds.
+    pub(crate) fn new(holds: &'static [Waiting]) -> HoldGate {
+        HoldGate {
+            counts: Counts::new(),
             holds,
             held: AtomicU64::new(0),
             failed: AtomicU64::new(0),
@@ -114,22 +143,12 @@ impl HoldGate {
 
     /// How often workers passed this point.
     pub(crate) fn pass_count(&self, point: Point) -> u64 {
-        self.all.count_at(point).load(Ordering::SeqCst)
-    }
-
-    /// The counts of a worker, or of all of them.
-    fn passes_of(&self, worker: u32) -> &Passed {
-        let place = worker as usize;
-        if place < WORKERS {
-            &self.workers[place]
-        } else {
-            &self.all
-        }
+        self.counts.count_at(ALL, point).load(Ordering::SeqCst)
     }
 
     /// Waits until this moment has come.
     fn hold(&self, until: Passing) {
-        let count = self.passes_of(until.0).count_at(until.1);
+        let count = self.counts.count_at(until.0, until.1);
         for _ in 0..TURNS {
             if has_come(count, until.2) {
                 self.held.fetch_add(1, Ordering::SeqCst);
@@ -180,11 +199,13 @@ impl HoldGate {
 
 impl Gate for HoldGate {
     fn pass(&self, worker: u32, point: Point, number: u32) {
-        self.all.count_at(point).fetch_add(1, Ordering::SeqCst);
+        self.counts
+            .count_at(ALL, point)
+            .fetch_add(1, Ordering::SeqCst);
         if worker < ALL {
             let before = self
-                .passes_of(worker)
-                .count_at(point)
+                .counts
+                .count_at(worker, point)
                 .fetch_add(1, Ordering::SeqCst);
             let time = before.saturating_add(1);
             self.compare_all(worker, point, time, number);
