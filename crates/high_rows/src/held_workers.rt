@@ -99,20 +99,7 @@ const PARTS_OF_FOUR: &[Waiting] = &[
     ),
 ];
 
-/// Of eight workers with eight cases each, worker 7 is held before its first case until worker 0 has done its seventh,
-/// and that one before its eighth case until worker 7 has done its first.
-const CASES_OF_EIGHT: &[Waiting] = &[
-    (
-        (7, Point::InCase, 1, Some(7)),
-        (0, Point::AfterCase, 7, Some(48)),
-    ),
-    (
-        (0, Point::InCase, 8, Some(56)),
-        (7, Point::AfterCase, 1, Some(7)),
-    ),
-];
-
-const SHARED: [Shared; 8] = [
+const SHARED: [Shared; 7] = [
     Shared {
         shows: "two workers run cases at once",
         mode: "campaign",
@@ -144,14 +131,6 @@ const SHARED: [Shared; 8] = [
         input: SIX_CASES,
         holds: CASES_OF_FOUR,
         begun: 6,
-    },
-    Shared {
-        shows: "eight workers run the generated campaign",
-        mode: "soak",
-        workers: "8",
-        input: b"",
-        holds: CASES_OF_EIGHT,
-        begun: 64,
     },
     // The caller does both parts of a short round, that of flow 1 first.
     Shared {
@@ -188,7 +167,7 @@ fn ends_like<R: Threads + Wait + Sync>(
     gate: &HoldGate,
     one: &RunResult,
 ) -> Result<bool, Fail> {
-    let words = ["ccp", row.mode, "--number", "1", "--workers", row.workers];
+    let words = ["ccp", row.mode, "--workers", row.workers];
     let several = run_under_gate(rt, alloc, &words, row.input, NONE_FAILS, gate)?;
     Ok(one.status == 0 && several.is(0, one.output.as_slice(), b""))
 }
@@ -200,8 +179,7 @@ fn ends_like_one_worker<R: Threads + Wait + Sync>(
     row: &Shared,
     gate: &HoldGate,
 ) -> Result<bool, Fail> {
-    let words = ["ccp", row.mode, "--number", "1"];
-    let one = run_on_words(rt, alloc, &words, row.input, NONE_FAILS)?;
+    let one = run_on_words(rt, alloc, &["ccp", row.mode], row.input, NONE_FAILS)?;
     ends_like(rt, alloc, row, gate, &one)
 }
 
