@@ -294,13 +294,16 @@ const HELD: [Held; 12] = [
         shows: "an agent answers after the last acknowledgement",
         words: &["ccp", "live"],
         input: LOSING,
-        holds: &[(
-            (0, Point::BeforeAck, 2, Some(0)),
-            (1, Point::AfterTake, 1, Some(0)),
-        ), (
-            (1, Point::AfterTake, 1, Some(0)),
-            (0, Point::AfterAck, 3, Some(0)),
-        )],
+        holds: &[
+            (
+                (0, Point::BeforeAck, 2, Some(0)),
+                (1, Point::AfterTake, 1, Some(0)),
+            ),
+            (
+                (1, Point::AfterTake, 1, Some(0)),
+                (0, Point::AfterAck, 3, Some(0)),
+            ),
+        ],
         output: b"epoch 1 program=3 at=3 cwnd=2896\nticket 0 report program=3 epoch=0 span=0..1 taken=1 answered=3 ",
         is_whole: false,
         begun: Some(0),
@@ -311,13 +314,16 @@ const HELD: [Held; 12] = [
         shows: "an agent settles twice between acknowledgements",
         words: &["ccp", "live"],
         input: LOSING,
-        holds: &[(
-            (1, Point::AfterTake, 1, Some(0)),
-            (0, Point::AfterAck, 2, Some(0)),
-        ), (
-            (0, Point::BeforeAck, 3, Some(0)),
-            (1, Point::AfterSettle, 2, Some(0)),
-        )],
+        holds: &[
+            (
+                (1, Point::AfterTake, 1, Some(0)),
+                (0, Point::AfterAck, 2, Some(0)),
+            ),
+            (
+                (0, Point::BeforeAck, 3, Some(0)),
+                (1, Point::AfterSettle, 2, Some(0)),
+            ),
+        ],
         output: b"ticket 1 report program=3 epoch=0 span=1..2 taken=2 answered=2 ",
         is_whole: false,
         begun: Some(0),
@@ -352,13 +358,16 @@ const HELD: [Held; 12] = [
         shows: "a datapath serves two flows to their ends",
         words: &["ccp", "live", "--datapaths", "2"],
         input: THREE_FLOWS,
-        holds: &[(
-            (0, Point::BeforeAck, 2, Some(2)),
-            (1, Point::AfterAck, 3, Some(1)),
-        ), (
-            (0, Point::BeforeAck, 7, Some(0)),
-            (1, Point::BeforeAck, 3, Some(1)),
-        )],
+        holds: &[
+            (
+                (0, Point::BeforeAck, 2, Some(2)),
+                (1, Point::AfterAck, 3, Some(1)),
+            ),
+            (
+                (0, Point::BeforeAck, 7, Some(0)),
+                (1, Point::BeforeAck, 3, Some(1)),
+            ),
+        ],
         output: b"flow 2 case=c agent=reno\n",
         is_whole: false,
         begun: Some(0),
@@ -369,10 +378,13 @@ const HELD: [Held; 12] = [
         shows: "a program is installed between acknowledgements",
         words: &["ccp", "rollout"],
         input: ONE_STEP,
-        holds: &[(
-            (1, Point::AfterTake, 1, Some(0)),
-            (0, Point::AfterAck, 1, Some(0)),
-        ), UNTIL_SETTLED],
+        holds: &[
+            (
+                (1, Point::AfterTake, 1, Some(0)),
+                (0, Point::AfterAck, 1, Some(0)),
+            ),
+            UNTIL_SETTLED,
+        ],
         output: b"epoch 0 step=0 at=1 cwnd=4344\nreport program=0 epoch=0 span=1..2 now=40000 cwnd=4344 rate=0\nend acks=2 reports=1 tail=2..2 stopped=no cwnd=4344 rate=0\n",
         is_whole: false,
         begun: Some(0),
@@ -384,13 +396,16 @@ const HELD: [Held; 12] = [
         shows: "installers go through the steps of their flows",
         words: &["ccp", "rollout", "--datapaths", "2", "--agents", "3"],
         input: TWO_STEPS,
-        holds: &[(
-            (0, Point::BeforeAck, 1, Some(0)),
-            (2, Point::AfterSettle, 2, Some(0)),
-        ), (
-            (3, Point::AfterTake, 2, Some(1)),
-            (4, Point::AfterSettle, 2, Some(2)),
-        )],
+        holds: &[
+            (
+                (0, Point::BeforeAck, 1, Some(0)),
+                (2, Point::AfterSettle, 2, Some(0)),
+            ),
+            (
+                (3, Point::AfterTake, 2, Some(1)),
+                (4, Point::AfterSettle, 2, Some(2)),
+            ),
+        ],
         output: b"flow 0 case=a\nstep 0 installed at=0\nstep 1 installed at=0\nepoch 0 step=0 at=0 cwnd=4344\nepoch 1 step=1 at=0 cwnd=4344\nreport program=1 epoch=1 span=0..1 now=30000 cwnd=4344 rate=0 n=2\nreport program=1 epoch=1 span=1..2 now=40000 cwnd=4344 rate=0 n=2\nend acks=2 reports=2 tail=2..2 stopped=no cwnd=4344 rate=0 n=2\n",
         is_whole: false,
         begun: Some(0),
@@ -418,13 +433,16 @@ const HELD: [Held; 12] = [
         shows: "two agents answer at once",
         words: &["ccp", "live", "--agents", "2"],
         input: TWO_LOSING,
-        holds: &[(
-            (1, Point::AfterTake, 1, None),
-            (2, Point::AfterTake, 1, None),
-        ), (
-            (2, Point::AfterTake, 1, None),
-            (1, Point::AfterTake, 1, None),
-        )],
+        holds: &[
+            (
+                (1, Point::AfterTake, 1, None),
+                (2, Point::AfterTake, 1, None),
+            ),
+            (
+                (2, Point::AfterTake, 1, None),
+                (1, Point::AfterTake, 1, None),
+            ),
+        ],
         output: b"flow 1 case=b agent=reno\n",
         is_whole: false,
         begun: Some(0),

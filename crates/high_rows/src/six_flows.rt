@@ -30,14 +30,38 @@ const FOUR_OF_EACH: &[Waiting] = &[
     ((1, Point::InAck, 1, Some(1)), (2, Point::InAck, 1, Some(2))),
     ((2, Point::InAck, 1, Some(2)), (3, Point::InAck, 1, Some(3))),
     ((3, Point::InAck, 1, Some(3)), (0, Point::InAck, 1, Some(0))),
-    ((4, Point::AfterTake, 1, None), (5, Point::AfterTake, 1, None)),
-    ((5, Point::AfterTake, 1, None), (6, Point::AfterTake, 1, None)),
-    ((6, Point::AfterTake, 1, None), (7, Point::AfterTake, 1, None)),
-    ((7, Point::AfterTake, 1, None), (4, Point::AfterTake, 1, None)),
-    ((0, Point::BeforeAck, 3, Some(0)), (ALL, Point::AfterSettle, 6, None)),
-    ((1, Point::BeforeAck, 3, Some(1)), (ALL, Point::AfterSettle, 6, None)),
-    ((2, Point::BeforeAck, 2, Some(2)), (ALL, Point::AfterSettle, 6, None)),
-    ((3, Point::BeforeAck, 2, Some(3)), (ALL, Point::AfterSettle, 6, None)),
+    (
+        (4, Point::AfterTake, 1, None),
+        (5, Point::AfterTake, 1, None),
+    ),
+    (
+        (5, Point::AfterTake, 1, None),
+        (6, Point::AfterTake, 1, None),
+    ),
+    (
+        (6, Point::AfterTake, 1, None),
+        (7, Point::AfterTake, 1, None),
+    ),
+    (
+        (7, Point::AfterTake, 1, None),
+        (4, Point::AfterTake, 1, None),
+    ),
+    (
+        (0, Point::BeforeAck, 3, Some(0)),
+        (ALL, Point::AfterSettle, 6, None),
+    ),
+    (
+        (1, Point::BeforeAck, 3, Some(1)),
+        (ALL, Point::AfterSettle, 6, None),
+    ),
+    (
+        (2, Point::BeforeAck, 2, Some(2)),
+        (ALL, Point::AfterSettle, 6, None),
+    ),
+    (
+        (3, Point::BeforeAck, 2, Some(3)),
+        (ALL, Point::AfterSettle, 6, None),
+    ),
 ];
 
 /// Of four datapaths and four installers, which are workers 4 to 7, each datapath is held in its first acknowledgement,
@@ -49,22 +73,70 @@ const FOUR_INSTALLERS: &[Waiting] = &[
     ((1, Point::InAck, 1, Some(1)), (2, Point::InAck, 1, Some(2))),
     ((2, Point::InAck, 1, Some(2)), (3, Point::InAck, 1, Some(3))),
     ((3, Point::InAck, 1, Some(3)), (0, Point::InAck, 1, Some(0))),
-    ((4, Point::AfterTake, 1, Some(0)), (5, Point::AfterTake, 1, Some(1))),
-    ((5, Point::AfterTake, 1, Some(1)), (6, Point::AfterTake, 1, Some(2))),
-    ((6, Point::AfterTake, 1, Some(2)), (7, Point::AfterTake, 1, Some(3))),
-    ((7, Point::AfterTake, 1, Some(3)), (4, Point::AfterTake, 1, Some(0))),
-    ((0, Point::BeforeAck, 1, Some(0)), (4, Point::AfterSettle, 2, Some(4))),
-    ((4, Point::AfterSettle, 2, Some(4)), (0, Point::AfterAck, 2, Some(4))),
-    ((0, Point::BeforeAck, 3, Some(0)), (4, Point::AfterSettle, 4, Some(4))),
-    ((1, Point::BeforeAck, 1, Some(1)), (5, Point::AfterSettle, 2, Some(5))),
-    ((5, Point::AfterSettle, 2, Some(5)), (1, Point::AfterAck, 2, Some(5))),
-    ((1, Point::BeforeAck, 3, Some(1)), (5, Point::AfterSettle, 4, Some(5))),
-    ((2, Point::BeforeAck, 1, Some(2)), (6, Point::AfterSettle, 1, Some(2))),
-    ((6, Point::AfterSettle, 1, Some(2)), (2, Point::AfterAck, 1, Some(2))),
-    ((2, Point::BeforeAck, 2, Some(2)), (6, Point::AfterSettle, 2, Some(2))),
-    ((3, Point::BeforeAck, 1, Some(3)), (7, Point::AfterSettle, 1, Some(3))),
-    ((7, Point::AfterSettle, 1, Some(3)), (3, Point::AfterAck, 1, Some(3))),
-    ((3, Point::BeforeAck, 2, Some(3)), (7, Point::AfterSettle, 2, Some(3))),
+    (
+        (4, Point::AfterTake, 1, Some(0)),
+        (5, Point::AfterTake, 1, Some(1)),
+    ),
+    (
+        (5, Point::AfterTake, 1, Some(1)),
+        (6, Point::AfterTake, 1, Some(2)),
+    ),
+    (
+        (6, Point::AfterTake, 1, Some(2)),
+        (7, Point::AfterTake, 1, Some(3)),
+    ),
+    (
+        (7, Point::AfterTake, 1, Some(3)),
+        (4, Point::AfterTake, 1, Some(0)),
+    ),
+    (
+        (0, Point::BeforeAck, 1, Some(0)),
+        (4, Point::AfterSettle, 2, Some(4)),
+    ),
+    (
+        (4, Point::AfterSettle, 2, Some(4)),
+        (0, Point::AfterAck, 2, Some(4)),
+    ),
+    (
+        (0, Point::BeforeAck, 3, Some(0)),
+        (4, Point::AfterSettle, 4, Some(4)),
+    ),
+    (
+        (1, Point::BeforeAck, 1, Some(1)),
+        (5, Point::AfterSettle, 2, Some(5)),
+    ),
+    (
+        (5, Point::AfterSettle, 2, Some(5)),
+        (1, Point::AfterAck, 2, Some(5)),
+    ),
+    (
+        (1, Point::BeforeAck, 3, Some(1)),
+        (5, Point::AfterSettle, 4, Some(5)),
+    ),
+    (
+        (2, Point::BeforeAck, 1, Some(2)),
+        (6, Point::AfterSettle, 1, Some(2)),
+    ),
+    (
+        (6, Point::AfterSettle, 1, Some(2)),
+        (2, Point::AfterAck, 1, Some(2)),
+    ),
+    (
+        (2, Point::BeforeAck, 2, Some(2)),
+        (6, Point::AfterSettle, 2, Some(2)),
+    ),
+    (
+        (3, Point::BeforeAck, 1, Some(3)),
+        (7, Point::AfterSettle, 1, Some(3)),
+    ),
+    (
+        (7, Point::AfterSettle, 1, Some(3)),
+        (3, Point::AfterAck, 1, Some(3)),
+    ),
+    (
+        (3, Point::BeforeAck, 2, Some(3)),
+        (7, Point::AfterSettle, 2, Some(3)),
+    ),
 ];
 
 const SIX_FLOWS: [Held; 2] = [
