@@ -1,5 +1,5 @@
 //! That workers run side by side: cases, the flows' parts of a round, datapaths, agents and installers.
-use crate::hold_gate::{Hold, HoldGate, Moment};
+use crate::hold_gate::{HoldGate, Waiting};
 use crate::runs::{NONE_FAILS, RunResult, run_on_words, run_under_gate};
 use ccp_base::Point;
 use std::alloc::Global;
@@ -11,43 +11,21 @@ use std::thread::Threads;
 const TWO_FLOWS: &[u8] =
     b"{\"version\":1,\"traces\":{\"t\":\"10\\n\"},\"cases\":[{\"name\":\"a\",\"agent\":\"reno\",\"trace\":\"t\",\"mss\":1448,\"queue\":10,\"delay_us\":20000,\"timeout_us\":1000000,\"acks\":4},{\"name\":\"b\",\"agent\":\"reno\",\"trace\":\"t\",\"mss\":1448,\"queue\":10,\"delay_us\":20000,\"timeout_us\":1000000,\"acks\":4}],\"shared\":{\"trace\":\"t\",\"queue\":10,\"quantum_us\":100000,\"rounds\":100}}";
 
-/// Two flows of Reno's over one bottleneck, in whose tenth round, the last one, each has 1,536 acknowledgements.
+/// Six flows over one bottleneck, in whose eighth round, the last one, each has 384 acknowledgements.
 const LONG_ROUND: &[u8] =
-    b"{\"version\":1,\"traces\":{\"t\":\"1\\n1\\n1\\n1\\n\"},\"cases\":[{\"name\":\"a\",\"agent\":\"reno\",\"trace\":\"t\",\"mss\":1448,\"queue\":10,\"delay_us\":20000,\"timeout_us\":1000000,\"acks\":3069},{\"name\":\"b\",\"agent\":\"reno\",\"trace\":\"t\",\"mss\":1448,\"queue\":10,\"delay_us\":20000,\"timeout_us\":1000000,\"acks\":3069}],\"shared\":{\"trace\":\"t\",\"queue\":4096,\"quantum_us\":1000000,\"rounds\":100}}";
+    b"{\"version\":1,\"traces\":{\"t\":\"1\\n1\\n1\\n1\\n\"},\"cases\":[{\"name\":\"a\",\"trace\":\"t\",\"mss\":1448,\"queue\":10,\"delay_us\":20000,\"timeout_us\":1000000,\"agent\":\"reno\",\"acks\":765},{\"name\":\"b\",\"trace\":\"t\",\"mss\":1448,\"queue\":10,\"delay_us\":20000,\"timeout_us\":1000000,\"agent\":\"cubic\",\"acks\":765},{\"name\":\"c\",\"trace\":\"t\",\"mss\":1448,\"queue\":10,\"delay_us\":20000,\"timeout_us\":1000000,\"agent\":\"reno\",\"acks\":765},{\"name\":\"d\",\"trace\":\"t\",\"mss\":1448,\"queue\":10,\"delay_us\":20000,\"timeout_us\":1000000,\"agent\":\"cubic\",\"acks\":765},{\"name\":\"e\",\"trace\":\"t\",\"mss\":1448,\"queue\":10,\"delay_us\":20000,\"timeout_us\":1000000,\"agent\":\"reno\",\"acks\":765},{\"name\":\"f\",\"trace\":\"t\",\"mss\":1448,\"queue\":10,\"delay_us\":20000,\"timeout_us\":1000000,\"agent\":\"cubic\",\"acks\":765}],\"shared\":{\"trace\":\"t\",\"queue\":4096,\"quantum_us\":1000000,\"rounds\":100}}";
 
-/// A worker's passing of a point, the one of this count, with the number of a flow or case; None if it may be any.
-type Passing = (u32, Point, u64, Option<u32>);
+/// Six cases, each with more acknowledgements than the one before.
+const SIX_CASES: &[u8] =
+    b"{\"version\":1,\"traces\":{\"t\":\"10\\n\"},\"cases\":[{\"name\":\"a\",\"trace\":\"t\",\"mss\":1448,\"queue\":10,\"delay_us\":20000,\"timeout_us\":1000000,\"agent\":\"reno\",\"acks\":4},{\"name\":\"b\",\"trace\":\"t\",\"mss\":1448,\"queue\":10,\"delay_us\":20000,\"timeout_us\":1000000,\"agent\":\"cubic\",\"acks\":5},{\"name\":\"c\",\"trace\":\"t\",\"mss\":1448,\"queue\":10,\"delay_us\":20000,\"timeout_us\":1000000,\"agent\":\"reno\",\"acks\":6},{\"name\":\"d\",\"trace\":\"t\",\"mss\":1448,\"queue\":10,\"delay_us\":20000,\"timeout_us\":1000000,\"agent\":\"cubic\",\"acks\":7},{\"name\":\"e\",\"trace\":\"t\",\"mss\":1448,\"queue\":10,\"delay_us\":20000,\"timeout_us\":1000000,\"agent\":\"reno\",\"acks\":8},{\"name\":\"f\",\"trace\":\"t\",\"mss\":1448,\"queue\":10,\"delay_us\":20000,\"timeout_us\":1000000,\"agent\":\"cubic\",\"acks\":9}]}";
 
-/// A worker waits at the first passing until the second one has come.
-type Waiting = (Passing, Passing);
-
-fn moment(passing: Passing) -> Moment {
-    let (worker, point, time, number) = passing;
-    Moment {
-        worker,
-        point,
-        time,
-        number,
-    }
-}
-
-fn hold(waiting: Waiting) -> Hold {
-    let (at, until) = waiting;
-    Hold {
-        at: moment(at),
-        until: moment(until),
-    }
-}
-
-/// Cases, or parts of rounds, of a mode on two workers that are held. Their output is that of one worker.
+/// Cases, or parts of rounds, of a mode on workers that are held. Their output is that of one worker.
 struct Shared {
     shows: &'static str,
     mode: &'static str,
+    workers: &'static str,
     input: &'static [u8],
-    one: Waiting,
-    other: Waiting,
-    /// How many holds end.
-    holds: u64,
+    holds: &'static [Waiting],
     /// How often workers begin a case or a part.
     begun: u64,
 }
@@ -64,77 +42,145 @@ const SECOND_PART: Waiting = (
     (1, Point::AfterCase, 2, Some(1)),
 );
 
-/// Worker 0 is held before its part of the long round until worker 1 has done its own, and that one until worker 0 has
-/// come to its part.
-const BEFORE_A_LONG_PART: Waiting = (
-    (0, Point::InCase, 10, Some(0)),
-    (1, Point::AfterCase, 10, Some(1)),
-);
+/// Each of four workers is held in its first case until the next one has begun its own. Then worker 0 is held before its
+/// second case until worker 3 has done its own, and worker 1 until worker 2 has.
+const CASES_OF_FOUR: &[Waiting] = &[
+    (
+        (0, Point::InCase, 1, Some(0)),
+        (1, Point::InCase, 1, Some(1)),
+    ),
+    (
+        (1, Point::InCase, 1, Some(1)),
+        (2, Point::InCase, 1, Some(2)),
+    ),
+    (
+        (2, Point::InCase, 1, Some(2)),
+        (3, Point::InCase, 1, Some(3)),
+    ),
+    (
+        (3, Point::InCase, 1, Some(3)),
+        (0, Point::InCase, 1, Some(0)),
+    ),
+    (
+        (0, Point::InCase, 2, Some(4)),
+        (3, Point::AfterCase, 1, Some(3)),
+    ),
+    (
+        (1, Point::InCase, 2, Some(5)),
+        (2, Point::AfterCase, 1, Some(2)),
+    ),
+];
 
-const BEFORE_THE_OTHER: Waiting = (
-    (1, Point::InCase, 10, Some(1)),
-    (0, Point::InCase, 10, Some(0)),
-);
+/// So it is with the parts of the long round, before which workers 0 and 1 did fourteen parts and the others seven.
+const PARTS_OF_FOUR: &[Waiting] = &[
+    (
+        (0, Point::InCase, 15, Some(0)),
+        (1, Point::InCase, 15, Some(1)),
+    ),
+    (
+        (1, Point::InCase, 15, Some(1)),
+        (2, Point::InCase, 8, Some(2)),
+    ),
+    (
+        (2, Point::InCase, 8, Some(2)),
+        (3, Point::InCase, 8, Some(3)),
+    ),
+    (
+        (3, Point::InCase, 8, Some(3)),
+        (0, Point::InCase, 15, Some(0)),
+    ),
+    (
+        (0, Point::InCase, 16, Some(4)),
+        (3, Point::AfterCase, 8, Some(3)),
+    ),
+    (
+        (1, Point::InCase, 16, Some(5)),
+        (2, Point::AfterCase, 8, Some(2)),
+    ),
+];
 
-const SHARED: [Shared; 6] = [
+/// Of eight workers with eight cases each, worker 7 is held before its first case until worker 0 has done its seventh,
+/// and that one before its eighth case until worker 7 has done its first.
+const CASES_OF_EIGHT: &[Waiting] = &[
+    (
+        (7, Point::InCase, 1, Some(7)),
+        (0, Point::AfterCase, 7, Some(48)),
+    ),
+    (
+        (0, Point::InCase, 8, Some(56)),
+        (7, Point::AfterCase, 1, Some(7)),
+    ),
+];
+
+const SHARED: [Shared; 8] = [
     Shared {
         shows: "two workers run cases at once",
         mode: "campaign",
+        workers: "2",
         input: TWO_FLOWS,
-        one: FIRST_CASE,
-        other: FIRST_CASE,
-        holds: 1,
+        holds: &[FIRST_CASE],
         begun: 2,
     },
     Shared {
-        shows: "two workers make a timeline",
+        shows: "four workers run six cases",
+        mode: "campaign",
+        workers: "4",
+        input: SIX_CASES,
+        holds: CASES_OF_FOUR,
+        begun: 6,
+    },
+    Shared {
+        shows: "four workers make a timeline of six cases",
         mode: "timeline",
-        input: TWO_FLOWS,
-        one: FIRST_CASE,
-        other: FIRST_CASE,
-        holds: 1,
-        begun: 2,
+        workers: "4",
+        input: SIX_CASES,
+        holds: CASES_OF_FOUR,
+        begun: 6,
     },
     Shared {
-        shows: "two workers write acknowledgements",
+        shows: "four workers write acknowledgements of six cases",
         mode: "acks",
-        input: TWO_FLOWS,
-        one: FIRST_CASE,
-        other: FIRST_CASE,
-        holds: 1,
-        begun: 2,
+        workers: "4",
+        input: SIX_CASES,
+        holds: CASES_OF_FOUR,
+        begun: 6,
+    },
+    Shared {
+        shows: "eight workers run the generated campaign",
+        mode: "soak",
+        workers: "8",
+        input: b"",
+        holds: CASES_OF_EIGHT,
+        begun: 64,
     },
     // The caller does both parts of a short round, that of flow 1 first.
     Shared {
         shows: "a short round ends",
         mode: "shared",
+        workers: "2",
         input: TWO_FLOWS,
-        one: FIRST_CASE,
-        other: SECOND_PART,
-        holds: 2,
+        holds: &[FIRST_CASE, SECOND_PART],
         begun: 4,
     },
     Shared {
         shows: "a short round ends in a timeline",
         mode: "shared-timeline",
+        workers: "2",
         input: TWO_FLOWS,
-        one: FIRST_CASE,
-        other: SECOND_PART,
-        holds: 2,
+        holds: &[FIRST_CASE, SECOND_PART],
         begun: 4,
     },
     Shared {
-        shows: "two workers do parts of a long round at once",
+        shows: "four workers do parts of a long round at once",
         mode: "shared",
+        workers: "4",
         input: LONG_ROUND,
-        one: BEFORE_A_LONG_PART,
-        other: BEFORE_THE_OTHER,
-        holds: 2,
-        begun: 20,
+        holds: PARTS_OF_FOUR,
+        begun: 48,
     },
 ];
 
-/// Whether a run of two workers under a gate ends like a run of one worker.
+/// Whether a run of these workers under a gate ends like a run of one worker.
 fn ends_like<R: Threads + Wait + Sync>(
     rt: &R,
     alloc: Global,
@@ -142,9 +188,9 @@ fn ends_like<R: Threads + Wait + Sync>(
     gate: &HoldGate,
     one: &RunResult,
 ) -> Result<bool, Fail> {
-    let words = ["ccp", row.mode, "--workers", "2"];
-    let two = run_under_gate(rt, alloc, &words, row.input, NONE_FAILS, gate)?;
-    Ok(one.status == 0 && two.is(0, one.output.as_slice(), b""))
+    let words = ["ccp", row.mode, "--number", "1", "--workers", row.workers];
+    let several = run_under_gate(rt, alloc, &words, row.input, NONE_FAILS, gate)?;
+    Ok(one.status == 0 && several.is(0, one.output.as_slice(), b""))
 }
 
 /// The same of a run of one worker, which it makes.
@@ -154,15 +200,16 @@ fn ends_like_one_worker<R: Threads + Wait + Sync>(
     row: &Shared,
     gate: &HoldGate,
 ) -> Result<bool, Fail> {
-    let one = run_on_words(rt, alloc, &["ccp", row.mode], row.input, NONE_FAILS)?;
+    let words = ["ccp", row.mode, "--number", "1"];
+    let one = run_on_words(rt, alloc, &words, row.input, NONE_FAILS)?;
     ends_like(rt, alloc, row, gate, &one)
 }
 
-/// Whether two workers, of whom one is held, do what the row says.
+/// Whether workers that are held do what the row says.
 fn is_shared<R: Threads + Wait + Sync>(rt: &R, alloc: Global, row: &Shared) -> Result<bool, Fail> {
-    let gate = HoldGate::new(hold(row.one), hold(row.other));
+    let gate = HoldGate::new(row.holds);
     let ended = ends_like_one_worker(rt, alloc, row, &gate);
-    let came = gate.hold_count() == Some(row.holds) && gate.pass_count(Point::InCase) == row.begun;
+    let came = gate.held_all() && gate.pass_count(Point::InCase) == row.begun;
     drop(gate);
     Ok(ended? && came)
 }
@@ -176,20 +223,17 @@ fn workers_run_cases_and_parts_of_rounds_at_once(rt: HostRuntime) -> Result<(), 
 }
 
 /// A run whose workers are held, and what its output has.
-struct Held {
-    shows: &'static str,
-    words: &'static [&'static str],
-    input: &'static [u8],
-    one: Waiting,
-    other: Waiting,
-    /// How many holds end.
-    holds: u64,
+pub(crate) struct Held {
+    pub(crate) shows: &'static str,
+    pub(crate) words: &'static [&'static str],
+    pub(crate) input: &'static [u8],
+    pub(crate) holds: &'static [Waiting],
     /// The output, or a part of it.
-    output: &'static [u8],
+    pub(crate) output: &'static [u8],
     /// Whether it is the whole output.
-    is_whole: bool,
+    pub(crate) is_whole: bool,
     /// How often workers begin a case or a part of a round; None if it isn't compared.
-    begun: Option<u64>,
+    pub(crate) begun: Option<u64>,
 }
 
 /// The ends of the two flows in a live run, whatever the order of their letters.
@@ -217,9 +261,9 @@ const FAULTING: &[u8] =
 const SECOND_LOSING: &[u8] =
     b"{\"version\":1,\"programs\":{\"p\":\"(def (Report (volatile loss 0))) (when true (:= Report.loss 1) (report))\",\"q\":\"(def (Report (volatile loss 0))) (when true (:= Report.loss 1))\"},\"traces\":{\"t\":\"10\\n\"},\"cases\":[{\"name\":\"a\",\"agent\":\"reno\",\"trace\":\"t\",\"mss\":1448,\"queue\":10,\"delay_us\":20000,\"timeout_us\":1000000,\"acks\":1,\"ss\":\"q\",\"ca\":\"q\"},{\"name\":\"b\",\"agent\":\"reno\",\"trace\":\"t\",\"mss\":1448,\"queue\":10,\"delay_us\":20000,\"timeout_us\":1000000,\"acks\":2,\"ss\":\"p\",\"ca\":\"p\"}]}";
 
-/// Three flows with two acknowledgements and two steps each.
+/// Three flows with two acknowledgements and two steps each, in another order in each flow.
 const TWO_STEPS: &[u8] =
-    b"{\"version\":1,\"programs\":{\"p\":\"(def) (when true (report))\"},\"traces\":{\"t\":\"10\\n\"},\"cases\":[{\"name\":\"a\",\"trace\":\"t\",\"mss\":1448,\"queue\":10,\"delay_us\":20000,\"timeout_us\":1000000,\"acks\":2,\"cwnd\":4344,\"steps\":[\"p\",\"p\"]},{\"name\":\"b\",\"trace\":\"t\",\"mss\":1448,\"queue\":10,\"delay_us\":20000,\"timeout_us\":1000000,\"acks\":2,\"cwnd\":4344,\"steps\":[\"p\",\"p\"]},{\"name\":\"c\",\"trace\":\"t\",\"mss\":1448,\"queue\":10,\"delay_us\":20000,\"timeout_us\":1000000,\"acks\":2,\"cwnd\":4344,\"steps\":[\"p\",\"p\"]}]}";
+    b"{\"version\":1,\"programs\":{\"p\":\"(def (Report (n 1))) (when true (report))\",\"q\":\"(def (Report (n 2))) (when true (report))\",\"r\":\"(def (Report (n 3))) (when true (report))\"},\"traces\":{\"t\":\"10\\n\"},\"cases\":[{\"name\":\"a\",\"trace\":\"t\",\"mss\":1448,\"queue\":10,\"delay_us\":20000,\"timeout_us\":1000000,\"acks\":2,\"cwnd\":4344,\"steps\":[\"p\",\"q\"]},{\"name\":\"b\",\"trace\":\"t\",\"mss\":1448,\"queue\":10,\"delay_us\":20000,\"timeout_us\":1000000,\"acks\":2,\"cwnd\":4344,\"steps\":[\"q\",\"r\"]},{\"name\":\"c\",\"trace\":\"t\",\"mss\":1448,\"queue\":10,\"delay_us\":20000,\"timeout_us\":1000000,\"acks\":2,\"cwnd\":4344,\"steps\":[\"r\",\"p\"]}]}";
 
 /// Two flows with one acknowledgement each, which shows a loss in a report.
 const TWO_LOSING: &[u8] =
@@ -249,15 +293,10 @@ const HELD: [Held; 12] = [
         shows: "two datapaths hear at once",
         words: &["ccp", "live", "--datapaths", "2"],
         input: TWO_FLOWS,
-        one: (
+        holds: &[(
             (0, Point::InAck, 1, Some(0)),
             (1, Point::AfterAck, 1, Some(1)),
-        ),
-        other: (
-            (0, Point::InAck, 1, Some(0)),
-            (1, Point::AfterAck, 1, Some(1)),
-        ),
-        holds: 1,
+        )],
         output: TWO_BOOKS,
         is_whole: true,
         begun: Some(0),
@@ -266,9 +305,7 @@ const HELD: [Held; 12] = [
         shows: "an agent settles between acknowledgements",
         words: &["ccp", "live"],
         input: LOSING,
-        one: UNTIL_SETTLED,
-        other: UNTIL_SETTLED,
-        holds: 1,
+        holds: &[UNTIL_SETTLED],
         output: b"ticket 0 report program=3 epoch=0 span=0..1 taken=1 answered=1 ",
         is_whole: false,
         begun: Some(0),
@@ -279,15 +316,16 @@ const HELD: [Held; 12] = [
         shows: "an agent answers after the last acknowledgement",
         words: &["ccp", "live"],
         input: LOSING,
-        one: (
-            (0, Point::BeforeAck, 2, Some(0)),
-            (1, Point::AfterTake, 1, Some(0)),
-        ),
-        other: (
-            (1, Point::AfterTake, 1, Some(0)),
-            (0, Point::AfterAck, 3, Some(0)),
-        ),
-        holds: 2,
+        holds: &[
+            (
+                (0, Point::BeforeAck, 2, Some(0)),
+                (1, Point::AfterTake, 1, Some(0)),
+            ),
+            (
+                (1, Point::AfterTake, 1, Some(0)),
+                (0, Point::AfterAck, 3, Some(0)),
+            ),
+        ],
         output: b"epoch 1 program=3 at=3 cwnd=2896\nticket 0 report program=3 epoch=0 span=0..1 taken=1 answered=3 ",
         is_whole: false,
         begun: Some(0),
@@ -298,15 +336,16 @@ const HELD: [Held; 12] = [
         shows: "an agent settles twice between acknowledgements",
         words: &["ccp", "live"],
         input: LOSING,
-        one: (
-            (1, Point::AfterTake, 1, Some(0)),
-            (0, Point::AfterAck, 2, Some(0)),
-        ),
-        other: (
-            (0, Point::BeforeAck, 3, Some(0)),
-            (1, Point::AfterSettle, 2, Some(0)),
-        ),
-        holds: 2,
+        holds: &[
+            (
+                (1, Point::AfterTake, 1, Some(0)),
+                (0, Point::AfterAck, 2, Some(0)),
+            ),
+            (
+                (0, Point::BeforeAck, 3, Some(0)),
+                (1, Point::AfterSettle, 2, Some(0)),
+            ),
+        ],
         output: b"ticket 1 report program=3 epoch=0 span=1..2 taken=2 answered=2 ",
         is_whole: false,
         begun: Some(0),
@@ -317,15 +356,10 @@ const HELD: [Held; 12] = [
         shows: "an agent settles the flow that reported",
         words: &["ccp", "live"],
         input: SECOND_LOSING,
-        one: (
+        holds: &[(
             (0, Point::BeforeAck, 4, Some(1)),
             (1, Point::AfterSettle, 1, Some(1)),
-        ),
-        other: (
-            (0, Point::BeforeAck, 4, Some(1)),
-            (1, Point::AfterSettle, 1, Some(1)),
-        ),
-        holds: 1,
+        )],
         output: b"ticket 0 report program=3 epoch=0 span=0..1 taken=1 answered=1 ",
         is_whole: false,
         begun: Some(0),
@@ -335,9 +369,7 @@ const HELD: [Held; 12] = [
         shows: "a fault is answered between acknowledgements",
         words: &["ccp", "live"],
         input: FAULTING,
-        one: UNTIL_SETTLED,
-        other: UNTIL_SETTLED,
-        holds: 1,
+        holds: &[UNTIL_SETTLED],
         output: b"epoch 1 program=3 at=1 ",
         is_whole: false,
         begun: Some(0),
@@ -348,15 +380,16 @@ const HELD: [Held; 12] = [
         shows: "a datapath serves two flows to their ends",
         words: &["ccp", "live", "--datapaths", "2"],
         input: THREE_FLOWS,
-        one: (
-            (0, Point::BeforeAck, 2, Some(2)),
-            (1, Point::AfterAck, 3, Some(1)),
-        ),
-        other: (
-            (0, Point::BeforeAck, 7, Some(0)),
-            (1, Point::BeforeAck, 3, Some(1)),
-        ),
-        holds: 2,
+        holds: &[
+            (
+                (0, Point::BeforeAck, 2, Some(2)),
+                (1, Point::AfterAck, 3, Some(1)),
+            ),
+            (
+                (0, Point::BeforeAck, 7, Some(0)),
+                (1, Point::BeforeAck, 3, Some(1)),
+            ),
+        ],
         output: b"flow 2 case=c agent=reno\n",
         is_whole: false,
         begun: Some(0),
@@ -367,12 +400,13 @@ const HELD: [Held; 12] = [
         shows: "a program is installed between acknowledgements",
         words: &["ccp", "rollout"],
         input: ONE_STEP,
-        one: (
-            (1, Point::AfterTake, 1, Some(0)),
-            (0, Point::AfterAck, 1, Some(0)),
-        ),
-        other: UNTIL_SETTLED,
-        holds: 2,
+        holds: &[
+            (
+                (1, Point::AfterTake, 1, Some(0)),
+                (0, Point::AfterAck, 1, Some(0)),
+            ),
+            UNTIL_SETTLED,
+        ],
         output: b"epoch 0 step=0 at=1 cwnd=4344\nreport program=0 epoch=0 span=1..2 now=40000 cwnd=4344 rate=0\nend acks=2 reports=1 tail=2..2 stopped=no cwnd=4344 rate=0\n",
         is_whole: false,
         begun: Some(0),
@@ -384,16 +418,17 @@ const HELD: [Held; 12] = [
         shows: "installers go through the steps of their flows",
         words: &["ccp", "rollout", "--datapaths", "2", "--agents", "3"],
         input: TWO_STEPS,
-        one: (
-            (0, Point::BeforeAck, 1, Some(0)),
-            (2, Point::AfterSettle, 2, Some(0)),
-        ),
-        other: (
-            (3, Point::AfterTake, 2, Some(1)),
-            (4, Point::AfterSettle, 2, Some(2)),
-        ),
-        holds: 2,
-        output: b"epoch 0 step=0 at=0 cwnd=4344\nepoch 1 step=1 at=0 cwnd=4344\n",
+        holds: &[
+            (
+                (0, Point::BeforeAck, 1, Some(0)),
+                (2, Point::AfterSettle, 2, Some(0)),
+            ),
+            (
+                (3, Point::AfterTake, 2, Some(1)),
+                (4, Point::AfterSettle, 2, Some(2)),
+            ),
+        ],
+        output: b"flow 0 case=a\nstep 0 installed at=0\nstep 1 installed at=0\nepoch 0 step=0 at=0 cwnd=4344\nepoch 1 step=1 at=0 cwnd=4344\nreport program=1 epoch=1 span=0..1 now=30000 cwnd=4344 rate=0 n=2\nreport program=1 epoch=1 span=1..2 now=40000 cwnd=4344 rate=0 n=2\nend acks=2 reports=2 tail=2..2 stopped=no cwnd=4344 rate=0 n=2\n",
         is_whole: false,
         begun: Some(0),
     },
@@ -401,9 +436,7 @@ const HELD: [Held; 12] = [
         shows: "a worker does parts of two flows",
         words: &["ccp", "shared", "--workers", "2"],
         input: THREE_FLOWS,
-        one: BEFORE_THE_SECOND,
-        other: AFTER_THE_SECOND,
-        holds: 2,
+        holds: &[BEFORE_THE_SECOND, AFTER_THE_SECOND],
         output: b"\nc reno 1 ",
         is_whole: false,
         begun: None,
@@ -412,9 +445,7 @@ const HELD: [Held; 12] = [
         shows: "a worker runs two cases, and each case is run once",
         words: &["ccp", "campaign", "--workers", "2"],
         input: THREE_FLOWS,
-        one: BEFORE_THE_SECOND,
-        other: AFTER_THE_SECOND,
-        holds: 2,
+        holds: &[BEFORE_THE_SECOND, AFTER_THE_SECOND],
         output: b"\nc reno 1 ",
         is_whole: false,
         begun: Some(3),
@@ -424,15 +455,16 @@ const HELD: [Held; 12] = [
         shows: "two agents answer at once",
         words: &["ccp", "live", "--agents", "2"],
         input: TWO_LOSING,
-        one: (
-            (1, Point::AfterTake, 1, None),
-            (2, Point::AfterTake, 1, None),
-        ),
-        other: (
-            (2, Point::AfterTake, 1, None),
-            (1, Point::AfterTake, 1, None),
-        ),
-        holds: 2,
+        holds: &[
+            (
+                (1, Point::AfterTake, 1, None),
+                (2, Point::AfterTake, 1, None),
+            ),
+            (
+                (2, Point::AfterTake, 1, None),
+                (1, Point::AfterTake, 1, None),
+            ),
+        ],
         output: b"flow 1 case=b agent=reno\n",
         is_whole: false,
         begun: Some(0),
@@ -479,10 +511,14 @@ fn has_begun(gate: &HoldGate, row: &Held) -> bool {
 }
 
 /// Whether a run whose workers are held shows what the row says.
-fn shows_held<R: Threads + Wait + Sync>(rt: &R, alloc: Global, row: &Held) -> Result<bool, Fail> {
-    let gate = HoldGate::new(hold(row.one), hold(row.other));
+pub(crate) fn shows_held<R: Threads + Wait + Sync>(
+    rt: &R,
+    alloc: Global,
+    row: &Held,
+) -> Result<bool, Fail> {
+    let gate = HoldGate::new(row.holds);
     let shown = shows_under(rt, alloc, row, &gate);
-    let came = gate.hold_count() == Some(row.holds) && has_begun(&gate, row);
+    let came = gate.held_all() && has_begun(&gate, row);
     drop(gate);
     Ok(shown? && came)
 }

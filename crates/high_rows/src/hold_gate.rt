@@ -8,34 +8,30 @@ const TURNS: u32 = 2_000_000;
 /// How many loads a turn makes.
 const LOADS: u32 = 1000;
 
+/// How many workers a gate counts by number.
+const WORKERS: usize = 8;
+
+/// All workers together, of which a hold may wait for the passing that comes as this one.
+pub(crate) const ALL: u32 = 8;
+
 /// A worker's passing of a point, by how often it passed there, from 1 on, and the number of the flow or case there;
 /// None if any of several may come.
-#[derive(Clone, Copy)]
-pub(crate) struct Moment {
-    pub(crate) worker: u32,
-    pub(crate) point: Point,
-    pub(crate) time: u64,
-    pub(crate) number: Option<u32>,
-}
+pub(crate) type Passing = (u32, Point, u64, Option<u32>);
+
+/// A worker waits at the first passing until the second one has come.
+pub(crate) type Waiting = (Passing, Passing);
 
 /// Whether a passing comes at a moment, by whatever number.
-fn is_at(moment: Moment, worker: u32, point: Point, time: u64) -> bool {
-    moment.worker == worker && moment.point == point && moment.time == time
+fn is_at(moment: Passing, worker: u32, point: Point, time: u64) -> bool {
+    moment.0 == worker && moment.1 == point && moment.2 == time
 }
 
 /// Whether the moment has this number.
-fn has_number(moment: Moment, number: u32) -> bool {
-    match moment.number {
+fn has_number(moment: Passing, number: u32) -> bool {
+    match moment.3 {
         Some(wanted) => wanted == number,
         None => true,
     }
-}
-
-/// A worker waits at one moment until another moment has come.
-#[derive(Clone, Copy)]
-pub(crate) struct Hold {
-    pub(crate) at: Moment,
-    pub(crate) until: Moment,
 }
 
 /// How often a worker passed each point.
@@ -77,16 +73,51 @@ impl Passed {
     }
 }
 
-/// A gate with two holds, which counts what workers pass.
+/// How often workers passed each point. It holds no reference, so that the borrow checker covers its calls.
+#[derive(Drop)]
+struct Counts {
+    workers: [Passed; WORKERS],
+    all: Passed,
+}
+
+impl Counts {
+    fn new() -> Counts {
+        Counts {
+            workers: [
+                Passed::new(),
+                Passed::new(),
+                Passed::new(),
+                Passed::new(),
+                Passed::new(),
+                Passed::new(),
+                Passed::new(),
+                Passed::new(),
+            ],
+            all: Passed::new(),
+        }
+    }
+
+    /// The counts of a worker, or of all of them.
+    fn of(&self, worker: u32) -> &Passed {
+        let place = worker as usize;
+        if place < WORKERS {
+            &self.workers[place]
+        } else {
+            &self.all
+        }
+    }
+
+    /// How often a worker passed this point, or all of them.
+    fn count_at(&self, worker: u32, point: Point) -> &AtomicU64 {
+        self.of(worker).count_at(point)
+    }
+}
+
+/// A gate with holds, which counts what workers pass.
 #[derive(Drop)]
 pub(crate) struct HoldGate {
-    first: Passed,
-    second: Passed,
-    third: Passed,
-    fourth: Passed,
-    others: Passed,
-    one: Hold,
-    other: Hold,
+    counts: Counts,
+    holds: &'static [Waiting],
     /// How many holds ended in time.
     held: AtomicU64,
     /// How many did not, and how often a worker reached a moment of theirs with another number.
@@ -94,59 +125,32 @@ pub(crate) struct HoldGate {
 }
 
 impl HoldGate {
-    /// A gate with two holds.
-    pub(crate) fn new(one: Hold, other: Hold) -> HoldGate {
+    /// A gate with these holds.
+    pub(crate) fn new(holds: &'static [Waiting]) -> HoldGate {
         HoldGate {
-            first: Passed::new(),
-            second: Passed::new(),
-            third: Passed::new(),
-            fourth: Passed::new(),
-            others: Passed::new(),
-            one,
-            other,
+            counts: Counts::new(),
+            holds,
             held: AtomicU64::new(0),
             failed: AtomicU64::new(0),
         }
     }
 
-    /// How many holds ended in time; None if one did not, or if a worker reached a hold with another number.
-    pub(crate) fn hold_count(&self) -> Option<u64> {
-        if self.failed.load(Ordering::SeqCst) > 0 {
-            return None;
-        }
-        Some(self.held.load(Ordering::SeqCst))
+    /// Whether each hold ended in time, and no worker reached a moment of theirs with another number.
+    pub(crate) fn held_all(&self) -> bool {
+        self.failed.load(Ordering::SeqCst) == 0
+            && self.held.load(Ordering::SeqCst) == self.holds.len() as u64
     }
 
     /// How often workers passed this point.
     pub(crate) fn pass_count(&self, point: Point) -> u64 {
-        let first = self.first.count_at(point).load(Ordering::SeqCst);
-        let second = self.second.count_at(point).load(Ordering::SeqCst);
-        let third = self.third.count_at(point).load(Ordering::SeqCst);
-        let fourth = self.fourth.count_at(point).load(Ordering::SeqCst);
-        let others = self.others.count_at(point).load(Ordering::SeqCst);
-        first
-            .saturating_add(second)
-            .saturating_add(third)
-            .saturating_add(fourth)
-            .saturating_add(others)
-    }
-
-    /// The counts of a worker.
-    fn passes_of(&self, worker: u32) -> &Passed {
-        match worker {
-            0 => &self.first,
-            1 => &self.second,
-            2 => &self.third,
-            3 => &self.fourth,
-            _ => &self.others,
-        }
+        self.counts.count_at(ALL, point).load(Ordering::SeqCst)
     }
 
     /// Waits until this moment has come.
-    fn hold(&self, until: Moment) {
-        let count = self.passes_of(until.worker).count_at(until.point);
+    fn hold(&self, until: Passing) {
+        let count = self.counts.count_at(until.0, until.1);
         for _ in 0..TURNS {
-            if has_come(count, until.time) {
+            if has_come(count, until.2) {
                 self.held.fetch_add(1, Ordering::SeqCst);
                 return;
             }
@@ -167,28 +171,45 @@ fn has_come(count: &AtomicU64, time: u64) -> bool {
 
 impl HoldGate {
     /// Compares the number of a passing with that of a moment that it comes at.
-    fn compare(&self, moment: Moment, worker: u32, point: Point, time: u64, number: u32) {
+    fn compare(&self, moment: Passing, worker: u32, point: Point, time: u64, number: u32) {
         if is_at(moment, worker, point, time) && !has_number(moment, number) {
             self.failed.fetch_add(1, Ordering::SeqCst);
+        }
+    }
+
+    /// Compares the number of a passing with those of all moments that it comes at.
+    fn compare_all(&self, worker: u32, point: Point, time: u64, number: u32) {
+        for hold in self.holds {
+            let (at, until) = *hold;
+            self.compare(at, worker, point, time, number);
+            self.compare(until, worker, point, time, number);
+        }
+    }
+
+    /// Holds the worker if one of the holds begins at this passing.
+    fn hold_at(&self, worker: u32, point: Point, time: u64) {
+        for hold in self.holds {
+            let (at, until) = *hold;
+            if is_at(at, worker, point, time) {
+                self.hold(until);
+            }
         }
     }
 }
 
 impl Gate for HoldGate {
     fn pass(&self, worker: u32, point: Point, number: u32) {
-        let before = self
-            .passes_of(worker)
-            .count_at(point)
+        self.counts
+            .count_at(ALL, point)
             .fetch_add(1, Ordering::SeqCst);
-        let time = before.saturating_add(1);
-        self.compare(self.one.at, worker, point, time, number);
-        self.compare(self.one.until, worker, point, time, number);
-        self.compare(self.other.at, worker, point, time, number);
-        self.compare(self.other.until, worker, point, time, number);
-        if is_at(self.one.at, worker, point, time) {
-            self.hold(self.one.until);
-        } else if is_at(self.other.at, worker, point, time) {
-            self.hold(self.other.until);
+        if worker < ALL {
+            let before = self
+                .counts
+                .count_at(worker, point)
+                .fetch_add(1, Ordering::SeqCst);
+            let time = before.saturating_add(1);
+            self.compare_all(worker, point, time, number);
+            self.hold_at(worker, point, time);
         }
     }
 }

@@ -29,6 +29,8 @@ mod rollouts;
 #[cfg(test)]
 mod runs;
 #[cfg(test)]
+mod six_flows;
+#[cfg(test)]
 mod soaks;
 #[cfg(test)]
 mod sums;
