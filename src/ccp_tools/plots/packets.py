@@ -107,16 +107,14 @@ def delay_row(over: Axes, beside: Axes, flows: Sequence[Named], senders: List[st
     found = [one for one in found if len(one[1])]
     if not found:
         return
-    numbers, times, trips = zip(*found)
-    colours = np.repeat([line_look(at)["color"] for at in numbers], [len(some) for some in times])
-    everything = np.concatenate(trips)
-    dots = dict(color=colours, s=2.5, linewidths=0, rasterized=True)
-    over.scatter(np.concatenate(times), everything, **dots)
     for at, when, values in found:
-        every = max(1, len(when) // 10)
-        how = {**line_look(at), "linestyle": "", "markeredgecolor": "white", "markeredgewidth": 0.5}
-        over.plot(when, values, markevery=(at * every // 8, every), **how)
-    draw_distributions(beside, zip(numbers, trips), is_upright=True)
-    over.set(ylabel="round-trip time [ms]", xlim=(0, max(some[-1] for some in times)))
-    pages.from_zero(over, "y", everything)
+        look, every = line_look(at), max(1, len(when) // 10)
+        dots = {**look, "linestyle": "", "marker": ".", "markersize": 1.6}
+        # below the marks, so that all dots of a panel are drawn one after another, into one image
+        over.plot(when, values, rasterized=True, zorder=1.9, **dots)
+        marks = {**look, "linestyle": "", "markeredgecolor": "white", "markeredgewidth": 0.5}
+        over.plot(when, values, markevery=(at * every // 8, every), **marks)
+    draw_distributions(beside, ((at, values) for at, _, values in found), is_upright=True)
+    over.set(ylabel="round-trip time [ms]", xlim=(0, max(when[-1] for _, when, _ in found)))
+    pages.from_zero(over, "y", np.concatenate([values for _, _, values in found]))
     beside.set(xlim=(0, 1.02), xticks=(0, 0.5, 1))
