@@ -93,9 +93,10 @@ def draw_lines(panel: Axes, lines: Sequence[Line], end: float) -> None:
     another's."""
     for at, (times, values) in enumerate(lines):
         wanted = (np.arange(10) + (at + 0.5) / len(lines)) * end / 10
-        places = np.searchsorted(times, wanted[wanted <= times.max(initial=0)], "right") - 1
-        marks = sorted({int(place) for place in places if place >= 0})
-        panel.plot(times, values, drawstyle="steps-post", markevery=marks, **line_look(at))
+        wanted = wanted[(wanted >= times.min(initial=end)) & (wanted <= times.max(initial=0))]
+        places = np.searchsorted(times, wanted, "right") - 1
+        panel.plot(times, values, drawstyle="steps-post", **{**line_look(at), "marker": ""})
+        panel.plot(wanted, values[places], **{**line_look(at), "linestyle": ""})
 
 
 def draw_marks(panel: Axes, found: List[Series], rows: List[str]) -> None:
