@@ -41,9 +41,7 @@ def add_arguments(parser: argparse.ArgumentParser) -> None:
     parser.add_argument("--measured", type=named_log, action="append", default=[], metavar="[NAME=]LOG", help=what)
 
 
-def read(
-    logs: Sequence[Tuple[str, str]], scenario: Scenario, windows: Mapping[str, Window]
-) -> List[RealSender]:
+def read(logs: Sequence[Tuple[str, str]], scenario: Scenario, windows: Mapping[str, Window]) -> List[RealSender]:
     """What the senders of logs had, up to the end of the measured span of their trace. A log belongs to the trace whose
     chances it has, or to the only trace of the comparison. What is no log is a CcpError."""
     made = []
