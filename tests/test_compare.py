@@ -409,7 +409,7 @@ def test_senders_together(program, tmp_path):
     assert shared["senders"] == ["reno", "cubic"] and len(shared["times_s"]) == len(shared["acked_bytes"]) > 20
     assert len(shared["lost_packets"]) == len(shared["packets_in_flight"]) == len(shared["times_s"])
     page = (tmp_path / "out" / "report.html").read_text()
-    assert "Sharing one link" in page and (tmp_path / "out" / "shared-fixed.pdf").exists()
+    assert "Sharing one link" in page and (tmp_path / "out" / "shared-fixed.svg").exists()
     table = (tmp_path / "out" / "shared-fixed.txt").read_text()
     for number, name in enumerate(shared["senders"]):
         row = next(line.split(" ") for line in table.split("\n") if line.startswith("fixed-%s " % name))

@@ -437,17 +437,25 @@ def groups(frame: pd.DataFrame, by: Sequence[str], names: Sequence[str] = tuple(
     """The cases of `figures` with equal values in the columns `by`, a row a group: `n` is the number of its cases, and
     of each figure `NAME_n` the number of cases that have it, `NAME_mean`, `NAME_sd` their standard deviation (divisor
     n - 1), and `NAME_ci95` half of the 95 % interval of the mean by Student's t. The order is that of the cases."""
-    from scipy.special import stdtrit  # the quantile of Student's t; scipy.stats takes far longer to import
-
     grouped = frame.groupby(list(by), sort=False, dropna=False)
     made = grouped.size().rename("n").to_frame()
     for name in names:
         some = grouped[name].agg(["count", "mean", "std"]).astype("float64")
         count = some["count"].to_numpy()
-        half = stdtrit(np.maximum(count - 1, 1), 0.975) * some["std"] / np.sqrt(np.maximum(count, 1))
+        half = quantile_of_t(count - 1) * some["std"] / np.sqrt(np.maximum(count, 1))
         made[name + "_n"] = count.astype(int)
         made[name + "_mean"], made[name + "_sd"], made[name + "_ci95"] = some["mean"], some["std"], half
     return made.reset_index()
+
+
+def quantile_of_t(degrees: np.ndarray) -> np.ndarray:
+    """The quantile 0.975 of Student's t; nan where there is no degree of freedom. scipy is imported only where there
+    is one, since that takes long."""
+    if (degrees < 1).all():
+        return np.full(len(degrees), np.nan)
+    from scipy.special import stdtrit  # scipy.stats takes far longer to import
+
+    return np.asarray(stdtrit(np.maximum(degrees, 1), 0.975))
 
 
 # ---- what is printed
