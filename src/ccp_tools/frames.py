@@ -1,7 +1,7 @@
 """Reads what `ccp` prints into pandas frames.
 
-    read_acks, acks_in           the acknowledgements of `acks`
-    read_timeline, timeline_of   the reports, faults, epochs and ends of `timeline` and `live`
+    read_acks, acks_in           the acknowledgements of `acks` and `shared-acks`
+    read_timeline, timeline_of   the reports, faults, epochs and ends of `timeline`, `shared-timeline` and `live`
     read_table                   the rows of `campaign` and `shared`
     read_shared                  the rows of `shared`, and its line `link`
     run_campaign, acks, timeline, figures   run the program on a scenario, and read what it prints
@@ -32,6 +32,8 @@ Source = Union[str, bytes, IO[str], IO[bytes]]
 DIGITS = b"0123456789"
 # every byte but a digit becomes a blank
 NUMBERS_ALONE = bytes(byte if byte in DIGITS else 32 for byte in range(256))
+# the line that ends a text of flows on one link
+LINK_LINE = b"link " + b" ".join(name.encode() + rb"=[0-9]{1,20}" for name in texts.LINK)
 # bytes of a file that are read at once
 PIECE = 1 << 23
 # the greatest value of a primitive, which is also what numpy makes of a greater one
@@ -54,10 +56,22 @@ class AckFrame:
 
 
 def acks_in(source: Source) -> Iterator[AckFrame]:
-    """The flows of a text of `acks`, one after another: only one flow of a file is in memory."""
+    """The flows of a text of `acks` or `shared-acks`, one after another: only one flow of a file is in memory."""
+    has_link = False
     for line, head, body in parts_of(source):
+        if has_link:
+            raise BadText("nothing comes after the line `link`", line)
+        body, has_link = without_link(body)
         number, case, agent = flow_of(line, head)
         yield AckFrame(number, case, agent, frame_of(body, line + 1))
+
+
+def without_link(body: bytes) -> Tuple[bytes, bool]:
+    """The lines below a line `flow` without the line `link` at their end, and whether there is one: it ends a text of
+    `shared-acks`."""
+    last = body.rstrip(b"\n").rpartition(b"\n")[2]
+    is_link = re.fullmatch(LINK_LINE, last) is not None
+    return (body[: body.rindex(last)] if is_link else body), is_link
 
 
 def read_acks(source: Source) -> pd.DataFrame:
@@ -66,7 +80,7 @@ def read_acks(source: Source) -> pd.DataFrame:
     Columns: `flow` (the number from 0), `case` and `agent` (texts as categories), `bytes_acked`, `bytes_misordered`,
     `ecn_bytes`, `bytes_in_flight`, `bytes_pending` (bytes), `packets_acked`, `packets_misordered`, `ecn_packets`,
     `lost_pkts_sample`, `packets_in_flight` (packets), `now`, `rtt_sample_us` (microseconds), `rate_incoming`,
-    `rate_outgoing` (bytes a second), each uint64, and `was_timeout` (bool). Source: `acks`."""
+    `rate_outgoing` (bytes a second), each uint64, and `was_timeout` (bool). Source: `acks` or `shared-acks`."""
     flows = list(acks_in(source))
     if not flows:
         return pd.DataFrame(columns=["flow", "case", "agent", *PRIMITIVES])
@@ -231,7 +245,7 @@ class Timeline:
 
 
 def read_timeline(source: Source) -> Timeline:
-    """A text of `timeline` or `live` as frames. Errors: BadText."""
+    """A text of `timeline`, `shared-timeline` or `live` as frames. Errors: BadText."""
     return timeline_of(texts.flows_in(text_of(source)))
 
 
@@ -309,16 +323,16 @@ def run_campaign(scenario: Given, **options: Any) -> pd.DataFrame:
     return pd.DataFrame(program.run_table(scenario, **options).rows, columns=COLUMNS)
 
 
-def acks(scenario: Given, **options: Any) -> pd.DataFrame:
-    """The acknowledgements that `acks` prints of a scenario (a dict or a text), as read_acks has them. Options are
-    those of program.run. Errors: CcpError."""
-    return read_acks(program.run("acks", scenario, **program.with_workers("acks", options)).output)
+def acks(scenario: Given, mode: str = "acks", **options: Any) -> pd.DataFrame:
+    """The acknowledgements that `acks` or `shared-acks` prints of a scenario (a dict or a text), as read_acks has them.
+    Options are those of program.run. Errors: CcpError."""
+    return read_acks(program.run(mode, scenario, **program.with_workers(mode, options)).output)
 
 
-def timeline(scenario: Given, **options: Any) -> Timeline:
-    """What `timeline` prints of a scenario (a dict or a text), as frames. Options are those of program.run.
-    Errors: CcpError."""
-    return read_timeline(program.run("timeline", scenario, **program.with_workers("timeline", options)).output)
+def timeline(scenario: Given, mode: str = "timeline", **options: Any) -> Timeline:
+    """What `timeline` or `shared-timeline` prints of a scenario (a dict or a text), as frames. Options are those of
+    program.run. Errors: CcpError."""
+    return read_timeline(program.run(mode, scenario, **program.with_workers(mode, options)).output)
 
 
 def figures(

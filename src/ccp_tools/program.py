@@ -154,13 +154,14 @@ def run_table(scenario: Given, mode: str = "campaign", **options: Any) -> texts.
 
 
 def run_flows(scenario: Given, mode: str = "timeline", **options: Any) -> List[texts.Flow]:
-    """The flows that `timeline`, `live` or `rollout` prints of a scenario. Options are those of `run`."""
+    """The flows that `timeline`, `shared-timeline`, `live` or `rollout` prints of a scenario. Options are those of
+    `run`."""
     return texts.read_flows(run(mode, scenario, **with_workers(mode, options)).output)
 
 
-def run_acks(scenario: Given, **options: Any) -> List[texts.AckFlow]:
-    """The acknowledgements that `acks` prints of a scenario. Options are those of `run`."""
-    return texts.read_acks(run("acks", scenario, **with_workers("acks", options)).output)
+def run_acks(scenario: Given, mode: str = "acks", **options: Any) -> List[texts.AckFlow]:
+    """The acknowledgements that `acks` or `shared-acks` prints of a scenario. Options are those of `run`."""
+    return texts.read_acks(run(mode, scenario, **with_workers(mode, options)).output)
 
 
 def with_workers(mode: str, options: Mapping[str, Any]) -> Dict[str, Any]:

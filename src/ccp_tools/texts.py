@@ -2,8 +2,9 @@
 
     kind_of                          what printed a text
     read_table, read_soak            the tables of `campaign`, `shared` and `soak`
-    read_flows, flows_in             the flows of `fold`, `live`, `timeline` and `rollout`
-    read_acks, acks_in               the acknowledgements of `acks`
+    read_flows, flows_in             the flows of `fold`, `live`, `timeline`, `shared-timeline` and `rollout`
+    read_acks, acks_in               the acknowledgements of `acks` and `shared-acks`
+    read_link                        the packets of the link in a text of `shared`, `shared-timeline` or `shared-acks`
     counts_of, check_same_run        whether two texts are of one run
 
 Numbers are whole numbers in the units that `ccp` prints: bytes, packets, and microseconds of virtual time. Every reader
@@ -18,7 +19,7 @@ from typing import Any, Callable, Dict, Iterable, Iterator, List, Mapping, Seque
 from .errors import BadText, CcpError
 from .tables import COLUMNS, PRIMITIVES, SUMS
 
-# the names of the numbers in the line `link` of a table of `shared`
+# the names of the numbers in the line `link` of `shared`, `shared-timeline` and `shared-acks`
 LINK = "rounds sent acked lost inflight".split()
 
 # the most digits of a number in a text: all are below 2**64
@@ -328,10 +329,24 @@ def flow_in(line: int, words: Sequence[str]) -> Tuple[int, str, str | None]:
     return whole(line, "flow", words[1]), case, agent[0] if agent else None
 
 
-def flows_in(source: Source) -> Iterator[Flow]:
-    """The flows of a text of `fold`, `live`, `timeline` or `rollout`, one after another. Install lines are skipped."""
-    flow: Flow | None = None
+def before_link(source: Source) -> Iterator[Tuple[int, str]]:
+    """The lines of a text with their numbers, without the line `link` that ends it if it is of a shared link."""
+    has_link = False
     for line, text in numbered(source):
+        if has_link:
+            raise BadText("nothing comes after the line `link`: %s" % text[:60], line)
+        if text.startswith("link "):
+            numbers(line, text.split(" ")[1:], LINK)
+            has_link = True
+        else:
+            yield line, text
+
+
+def flows_in(source: Source) -> Iterator[Flow]:
+    """The flows of a text of `fold`, `live`, `timeline`, `shared-timeline` or `rollout`, one after another. Install
+    lines are skipped."""
+    flow: Flow | None = None
+    for line, text in before_link(source):
         words = text.split(" ")
         if words[0] == "install":
             continue
@@ -352,8 +367,19 @@ def flows_in(source: Source) -> Iterator[Flow]:
 
 
 def read_flows(source: Source) -> List[Flow]:
-    """The flows of a text of `fold`, `live`, `timeline` or `rollout`, as a list of Flow."""
+    """The flows of a text of `fold`, `live`, `timeline`, `shared-timeline` or `rollout`, as a list of Flow."""
     return list(flows_in(source))
+
+
+def read_link(source: Source) -> Dict[str, int]:
+    """The line `link` at the end of a text of `shared`, `shared-timeline` or `shared-acks`: `rounds`, and the packets
+    `sent`, `acked`, `lost` and `inflight` of all flows. Errors: BadText, also where there is no such line."""
+    line, text = 0, ""
+    for line, text in numbered(source):
+        pass
+    if not text.startswith("link "):
+        raise BadText("there is no line `link` at the end", line)
+    return numbers(line, text.split(" ")[1:], LINK)
 
 
 def counts_of(flow: Flow) -> Dict[str, Any]:
@@ -391,9 +417,9 @@ def ack_in(line: int, text: str) -> Ack:
 
 
 def acks_in(source: Source) -> Iterator[AckFlow]:
-    """The flows of a text of `acks`, one after another, so that a long text doesn't fill the memory."""
+    """The flows of a text of `acks` or `shared-acks`, one after another: a long text doesn't fill the memory."""
     flow: AckFlow | None = None
-    for line, text in numbered(source):
+    for line, text in before_link(source):
         if text.startswith("flow "):
             if flow:
                 yield flow
@@ -411,7 +437,7 @@ def acks_in(source: Source) -> Iterator[AckFlow]:
 
 
 def read_acks(source: Source) -> List[AckFlow]:
-    """The flows of a text of `acks`, as a list of AckFlow."""
+    """The flows of a text of `acks` or `shared-acks`, as a list of AckFlow."""
     return list(acks_in(source))
 
 
@@ -496,8 +522,9 @@ KINDS = {
 
 
 def kind_of(text: Source) -> str:
-    """What printed a text: "table" (`campaign` and `shared`), "soak", "live" (and `timeline`), "rollout", "fold",
-    "acks", "check", "audit" or "install" (install lines alone); "" where it is none of these."""
+    """What printed a text: "table" (`campaign` and `shared`), "soak", "live" (and `timeline`, `shared-timeline`),
+    "rollout", "fold", "acks" (and `shared-acks`), "check", "audit" or "install" (install lines alone); "" where it is
+    none of these."""
     lines = [line for _, line in zip(range(40), (line for _, line in numbered(text)))]
     rest = [line for line in lines if not line.startswith("install ")]
     if not rest:

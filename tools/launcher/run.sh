@@ -100,7 +100,7 @@ prove() {
 set_words() {
     local processors
     words=("${options[@]}" "$mode")
-    if [[ $mode != shared && " ${options[*]}" != *" --workers="* ]] && uses_option "$mode" workers; then
+    if [[ $mode != shared* && " ${options[*]}" != *" --workers="* ]] && uses_option "$mode" workers; then
         processors=$(nproc)
         words=("--workers=$((processors < 32 ? processors : 32))" "${words[@]}")
     fi

@@ -19,7 +19,7 @@ use Rattle.flow_core.specs.Words.{acks_in}
 use Rattle.flow_core.specs.World.{Era, Answered, World, told_as, track_of}
 use Rattle.flow_core.proofs.LinkWordLemmas.{length-world}
 use Rattle.campaign_report.specs.BookText.{account_in, book_text, books_text, end_in, last_program}
-use Rattle.campaign_report.specs.BooksRead.{answered_of, content_of, flows_of, IsBookRead, read_flow, read_world}
+use Rattle.campaign_report.specs.BooksRead.{answered_of, content_of, flows_of, IsBookRead, IsBookReadAs, read_flow, read_world}
 
 last_program-present : (program : ℕ) (past : List Era) (present : Era) → last_program program (map epoch_line (past ++ present ∷ [])) ≡ present.program
 last_program-present program [] present = refl
@@ -64,21 +64,18 @@ module _ (programs : List (ℕ × Built)) (case : Case) (flow : Flow Place) wher
       ⧺ tickets-shown 0 tickets i
       ⧺ last_line (fields_at texts account.program) (counts-shown tickets i) account.held (length account.faults) account.end
 
-module _ (programs : List (ℕ × Built)) (book : Book) (told : IsBookRead programs book) where
+-- a book that has a state of its flow, whose word has as many acknowledgements as the state
+module _ (programs : List (ℕ × Built)) (book : Book) (w : World Place) (told : IsBookReadAs programs book w) (all : acks_in book.word ≡ length w.acks) where
   abbrev flow : Flow Place
   flow = read_flow programs book
-
-  abbrev w : World Place
-  w = read_world programs book
 
   abbrev track : Track
   track = track_of flow w
 
   ends : end_in book ≡ end_of (length w.acks) track
   ends =
-      let acks : acks_in book.word ≡ length w.acks = sym (length-world flow book.case.link book.word) in
       λ i. record {
-        acks = acks i;
+        acks = all i;
         first = told.first i;
         stopped = told.stopped i;
         cwnd = (told.registers i).cwnd;
@@ -102,11 +99,17 @@ module _ (programs : List (ℕ × Built)) (book : Book) (told : IsBookRead progr
         end = ends i;
       }
 
-  pub book-part : book_text programs book ≡ flow_part (sources_of programs) book.case (read_world programs book)
-  book-part =
+  -- its text is the flow's part with this state
+  pub book-part-as : book_text programs book ≡ flow_part (sources_of programs) book.case w
+  book-part-as =
       ap (λ (a : Account). account_text (sources_of programs) book.case a) accounts
       ∙ account-shown programs book.case flow (account_of flow w) book.tickets
       ∙ ap (λ (ts : List (Answered Place)). account_text (sources_of programs) book.case (record (account_of flow w) { tickets = map (ticket_line flow) ts })) told.tickets
+
+book-part : (programs : List (ℕ × Built)) (book : Book) → IsBookRead programs book
+    → book_text programs book ≡ flow_part (sources_of programs) book.case (read_world programs book)
+book-part programs book told =
+    book-part-as programs book (read_world programs book) told (sym (length-world (read_flow programs book) book.case.link book.word))
 
 -- and so are those of books in order
 pub books-live : (programs : List (ℕ × Built)) (books : List Book) → All (IsBookRead programs) books

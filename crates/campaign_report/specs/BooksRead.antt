@@ -37,16 +37,20 @@ read_flow programs book = flow_from (sources_of programs) book.case
 abbrev pub read_world : List (ℕ × Built) → Book → World Place
 read_world programs book = world (read_flow programs book) book.case.link book.word
 
--- the book's tickets, epochs, faults, held number and registers are those of that state, each fault with the place of
--- its instruction
-pub record IsBookRead (programs : List (ℕ × Built)) (book : Book) : Type 0 where
-  pub tickets : map (answered_of programs book.case) book.tickets ≡ (read_world programs book).answered
-  pub epochs : book.epochs ≡ map epoch_line ((read_world programs book).past ++ (read_world programs book).present ∷ [])
-  pub faults : map (placed_failure programs book.case) book.faults ≡ (read_world programs book).faults
-  pub held : book.held ≡ (read_world programs book).held
-  pub first : book.first ≡ (track_of (read_flow programs book) (read_world programs book)).first
-  pub registers : env_of book.machine.kept ≡ (track_of (read_flow programs book) (read_world programs book)).env
-  pub stopped : book.machine.is_stopped ≡ (track_of (read_flow programs book) (read_world programs book)).is_stopped
+-- the book's tickets, epochs, faults, held number and registers are those of this state of its flow, each fault with the
+-- place of its instruction
+pub record IsBookReadAs (programs : List (ℕ × Built)) (book : Book) (w : World Place) : Type 0 where
+  pub tickets : map (answered_of programs book.case) book.tickets ≡ w.answered
+  pub epochs : book.epochs ≡ map epoch_line (w.past ++ w.present ∷ [])
+  pub faults : map (placed_failure programs book.case) book.faults ≡ w.faults
+  pub held : book.held ≡ w.held
+  pub first : book.first ≡ (track_of (read_flow programs book) w).first
+  pub registers : env_of book.machine.kept ≡ (track_of (read_flow programs book) w).env
+  pub stopped : book.machine.is_stopped ≡ (track_of (read_flow programs book) w).is_stopped
+
+-- they are those of the state after the book's word
+abbrev pub IsBookRead : List (ℕ × Built) → Book → Type 0
+IsBookRead programs book = IsBookReadAs programs book (read_world programs book)
 
 -- the flows of books: each its case and its word
 abbrev pub flows_of : List Book → List (Case × List Letter)

@@ -18,4 +18,5 @@ mod AlikeLemmas
 mod RowLaw
 mod AuditedLemmas
 pub mod SharedLemmas
+pub mod SeriesLemmas
 pub mod RolloutLemmas

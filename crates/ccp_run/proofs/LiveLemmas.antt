@@ -11,7 +11,7 @@ use Rattle.reg_compiler.specs.Simulation.{Simulates}
 use Rattle.flow_core.specs.declared.book.Book.{Book}
 use Rattle.flow_core.specs.declared.book.TicketLine.{TicketLine}
 use Rattle.flow_core.specs.declared.case.Case.{Case}
-use Rattle.flow_core.specs.Books.{ticket_line, epoch_line}
+use Rattle.flow_core.specs.Books.{ticket_line, epoch_line, IsBookOf}
 use Rattle.flow_core.specs.Lift.{Placing, place_in, map_failure, map_content, map_answered, map_world}
 use Rattle.flow_core.specs.LiveText.{source_at}
 use Rattle.flow_core.specs.Readings.{Flow, over_codes}
@@ -22,7 +22,7 @@ use Rattle.flow_table.specs.WholeBooks.{IsWholeBook}
 use Rattle.agent_loop.specs.LiveBooks.{AreBooksOf}
 use Rattle.campaign_gate.proofs.LiftedRowLemmas.{track-lifts}
 use Rattle.campaign_report.specs.BookText.{placed_failure, program_places}
-use Rattle.campaign_report.specs.BooksRead.{content_of, answered_of, read_flow, read_world, IsBookRead}
+use Rattle.campaign_report.specs.BooksRead.{content_of, answered_of, read_flow, read_world, IsBookRead, IsBookReadAs}
 use Rattle.scenario_json.specs.Cases.{IsCoded, AreNumberedFrom}
 use Rattle.reg_compiler.specs.Sources.{sources_of}
 use Rattle.ccp_run.specs.Live.{IsRightBook, book_cases}
@@ -34,7 +34,7 @@ module _ (programs : List (ℕ × Built)) (case : Case) where
   abbrev codes : Flow ℕ
   codes = over_codes case
 
-  abbrev place : Placing
+  abbrev pub place : Placing
   place = place_in case (program_places programs case.ss.role.number) (program_places programs case.ca.role.number)
 
   faults-placed : (failures : List (Failure ℕ)) → map (placed_failure programs case) (map (notice_of codes) failures) ≡ map (map_failure place) failures
@@ -49,6 +49,22 @@ module _ (programs : List (ℕ × Built)) (case : Case) where
   tickets-placed [] = refl
   tickets-placed (ticket ∷ rest) =
       λ i. record { told = told-placed ticket.told i; taken = ticket.taken; answered = ticket.answered; reply = ticket.reply } ∷ tickets-placed rest i
+
+-- a book of a state over codes shows the state over sources that it stands for
+module _ (programs : List (ℕ × Built)) (book : Book) (w : World ℕ) (v : World Place) (is : IsBookOf (over_codes book.case) w book)
+    (worlds : map_world (place programs book.case) w ≡ v) (tracks : track_of (over_codes book.case) w ≡ track_of (read_flow programs book) v) where
+  pub read_as : IsBookReadAs programs book v
+  read_as = record {
+    tickets = ap (λ (ts : List TicketLine). map (answered_of programs book.case) ts) is.tickets
+        ∙ tickets-placed programs book.case w.answered ∙ ap (λ (s : World Place). s.answered) worlds;
+    epochs = is.epochs ∙ ap (λ (s : World Place). map epoch_line (s.past ++ s.present ∷ [])) worlds;
+    faults = ap (λ (ns : List Notice). map (placed_failure programs book.case) ns) is.faults
+        ∙ faults-placed programs book.case w.faults ∙ ap (λ (s : World Place). s.faults) worlds;
+    held = is.held ∙ ap (λ (s : World Place). s.held) worlds;
+    first = is.first ∙ ap (λ (t : Track). t.first) tracks;
+    registers = is.registers ∙ ap (λ (t : Track). t.env) tracks;
+    stopped = is.stopped ∙ ap (λ (t : Track). t.is_stopped) tracks;
+  }
 
 module _ (programs : List (ℕ × Built)) (numbered : AreNumberedFrom 0 programs) (book : Book) (whole : IsWholeBook book) (coded : IsCoded programs book.case) where
   abbrev case : Case
@@ -82,17 +98,7 @@ module _ (programs : List (ℕ × Built)) (numbered : AreNumberedFrom 0 programs
   tracks = track-lifts case ss ca ss_places ca_places ss_simulates ca_simulates book.word
 
   told : IsBookRead programs book
-  told = record {
-    tickets = ap (λ (ts : List TicketLine). map (answered_of programs case) ts) whole.told.tickets
-        ∙ tickets-placed programs case by_code.answered ∙ ap (λ (w : World Place). w.answered) worlds;
-    epochs = whole.told.epochs ∙ ap (λ (w : World Place). map epoch_line (w.past ++ w.present ∷ [])) worlds;
-    faults = ap (λ (ns : List Notice). map (placed_failure programs case) ns) whole.told.faults
-        ∙ faults-placed programs case by_code.faults ∙ ap (λ (w : World Place). w.faults) worlds;
-    held = whole.told.held ∙ ap (λ (w : World Place). w.held) worlds;
-    first = whole.told.first ∙ ap (λ (t : Track). t.first) tracks;
-    registers = whole.told.registers ∙ ap (λ (t : Track). t.env) tracks;
-    stopped = whole.told.stopped ∙ ap (λ (t : Track). t.is_stopped) tracks;
-  }
+  told = read_as programs book by_code (read_world programs book) whole.told worlds tracks
 
   right_book : IsRightBook programs book
   right_book = record {

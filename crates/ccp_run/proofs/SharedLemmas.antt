@@ -20,6 +20,7 @@ use Rattle.shared_link.specs.SharedRounds.{acks_after}
 use Rattle.shared_run.specs.RoundLetters.{CaseReading, opened, closed_flow}
 use Rattle.shared_run.specs.FlowRow.{flow_row}
 use Rattle.shared_run.specs.LiftedRun.{AreSimulated}
+use Rattle.shared_run.proofs.TurnLemmas.{part-case, settled-case}
 use Rattle.shared_run.specs.SharedHistory.{Progress, progress, asks_of, parts, after_round, have_all, rounds_from, round_limit, whole_run, flows_at_end, shared_rows}
 use Rattle.ccp_run.proofs.CodedLemmas.{simulated}
 
@@ -83,32 +84,52 @@ starts_within (flow ∷ rest) within zero d less = start_within flow (within 0 (
 starts_within (flow ∷ rest) within (suc k) d less =
     starts_within rest (λ j e h. within (suc j) e (omega (arith, h))) k d (omega (arith, less))
 
--- ---- how many rows
+-- ---- the cases of a run's flows
 
-parts-count : {X : Type 0} (read : CaseReading X) (lists : List (List Ack)) (flows : List CoreState) → length (parts read lists flows) ≡ length flows
-parts-count read [] flows = refl
-parts-count read (acks ∷ others) [] = refl
-parts-count read (acks ∷ others) (core ∷ rest) = ap suc (parts-count read others rest)
+abbrev pub case_of : CoreState → Case
+case_of core = core.case
 
-either-count : (ends : Bool) (now later : Progress) (n : ℕ) → length now.flows ≡ n → length later.flows ≡ n → length (if ends then now else later).flows ≡ n
-either-count true now later n here there = here
-either-count false now later n here there = there
+module _ {X : Type 0} (read : CaseReading X) where
+  parts-cases : (lists : List (List Ack)) (flows : List CoreState) → map case_of (parts read lists flows) ≡ map case_of flows
+  parts-cases [] flows = refl
+  parts-cases (acks ∷ others) [] = refl
+  parts-cases (acks ∷ others) (core ∷ rest) = λ i. part-case read acks core i ∷ parts-cases others rest i
+
+  closed-cases : (flows : List CoreState) → map case_of (map (closed_flow read) flows) ≡ map case_of flows
+  closed-cases [] = refl
+  closed-cases (core ∷ rest) = λ i. settled-case read true core i ∷ closed-cases rest i
+
+either-cases : (ends : Bool) (now later : Progress) (cases : List Case) → map case_of now.flows ≡ cases → map case_of later.flows ≡ cases
+    → map case_of (if ends then now else later).flows ≡ cases
+either-cases true now later cases here there = here
+either-cases false now later cases here there = there
+
+opened-cases : (cases : List Case) → map case_of (map opened cases) ≡ cases
+opened-cases [] = refl
+opened-cases (case ∷ rest) = ap (λ (cs : List Case). case ∷ cs) (opened-cases rest)
 
 module _ {X : Type 0} (link : SharedCase) (read : CaseReading X) where
-  rounds-count : (n : ℕ) (run : Progress) → length (rounds_from link read n run).flows ≡ length run.flows
-  rounds-count zero run = refl
-  rounds-count (suc more) run =
+  rounds-cases : (n : ℕ) (run : Progress) → map case_of (rounds_from link read n run).flows ≡ map case_of run.flows
+  rounds-cases zero run = refl
+  rounds-cases (suc more) run =
       let next = after_round link read run in
-      let here = parts-count read (acks_after link run.history (asks_of read run.flows)) run.flows in
-      either-count (have_all next.flows) next (rounds_from link read more next) (length run.flows) here (rounds-count more next ∙ here)
+      let here = parts-cases read (acks_after link run.history (asks_of read run.flows)) run.flows in
+      either-cases (have_all next.flows) next (rounds_from link read more next) (map case_of run.flows) here (rounds-cases more next ∙ here)
+
+  -- the flows at a run's end are those of its cases, in order
+  pub flows-cases : (cases : List Case) (rounds : ℕ) → map case_of (flows_at_end link read cases rounds) ≡ cases
+  flows-cases cases rounds =
+      closed-cases read (whole_run link read cases rounds).flows
+      ∙ rounds-cases (round_limit cases rounds) (progress [] (map opened cases))
+      ∙ opened-cases cases
+
+  pub flows-count : (cases : List Case) (rounds : ℕ) → length (flows_at_end link read cases rounds) ≡ length cases
+  flows-count cases rounds =
+      sym (length-map (flows_at_end link read cases rounds) case_of) ∙ ap length (flows-cases cases rounds)
 
 -- one row a case
 pub rows-count : (link : SharedCase) (cases : List Case) (rounds : ℕ) → length (shared_rows link over_codes cases rounds) ≡ length cases
-rows-count link cases rounds =
-    length-map (flows_at_end link over_codes cases rounds) (flow_row over_codes)
-    ∙ length-map (whole_run link over_codes cases rounds).flows (closed_flow over_codes)
-    ∙ rounds-count link over_codes (round_limit cases rounds) (progress [] (map opened cases))
-    ∙ length-map cases opened
+rows-count link cases rounds = length-map (flows_at_end link over_codes cases rounds) (flow_row over_codes) ∙ flows-count link over_codes cases rounds
 
 -- ---- the link
 

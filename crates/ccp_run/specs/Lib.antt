@@ -16,12 +16,14 @@ pub mod Timeline
 pub mod AcksRuns
 pub mod AuditRuns
 pub mod Shared
+pub mod SharedSeries
 pub mod Rollout
 pub mod Modes
 pub mod Run
 pub mod Complete
 pub mod Settled
 pub mod TextLaws
+pub mod SharedLaws
 pub mod Tool
 -- of these two, the contract of a run cites `MakesOutput` and `RefusesAny`, `Ends` and `WritesAll`; the rest, and the
 -- file after them, only private contracts and proofs cite

@@ -19,6 +19,7 @@ use Rattle.ccp_run.specs.Fold.{fold_rules}
 use Rattle.ccp_run.specs.Live.{live_rules}
 use Rattle.ccp_run.specs.Rollout.{rollout_rules}
 use Rattle.ccp_run.specs.Shared.{shared_rules}
+use Rattle.ccp_run.specs.SharedSeries.{shared_timeline_rules, shared_acks_rules}
 use Rattle.ccp_run.specs.Soak.{soak_rules}
 use Rattle.ccp_run.specs.Timeline.{timeline_rules}
 
@@ -36,6 +37,9 @@ pub data Task : Type 0 where
   -- whether the programs' Install frames are shown
   Timeline : Bool → Task
   Acks : Task
+  -- whether the programs' Install frames are shown
+  SharedTimeline : Bool → Task
+  SharedAcks : Task
 
 -- what this mode is to do, with these options
 abbrev pub task_in : ToolMode → Asked → Task
@@ -47,6 +51,8 @@ task_in mode.Rollout asked = Rollout
 task_in mode.Shared asked = Shared
 task_in mode.Timeline asked = Timeline asked.wire
 task_in mode.Acks asked = Acks
+task_in mode.SharedTimeline asked = SharedTimeline asked.wire
+task_in mode.SharedAcks asked = SharedAcks
 
 -- the rules of a task's mode
 abbrev pub rules_of : Task → Rules
@@ -61,6 +67,8 @@ rules_of Rollout = rollout_rules
 rules_of Shared = shared_rules
 rules_of (Timeline wire) = timeline_rules wire
 rules_of Acks = acks_rules
+rules_of (SharedTimeline wire) = shared_timeline_rules wire
+rules_of SharedAcks = shared_acks_rules
 
 -- ---- for every mode
 

@@ -53,11 +53,15 @@ link_line counts =
     ⧺ codes " acked=" ⧺ decimal counts.acked ⧺ codes " lost=" ⧺ decimal counts.lost
     ⧺ codes " inflight=" ⧺ decimal counts.inflight ⧺ codes "\n"
 
+-- the line of the link of cases of these programs, read over the programs' sources
+abbrev pub run_line : List (ℕ × Built) → List Case → SharedCase → ℕ → List ℕ
+run_line programs cases link rounds = link_line (shared_counts link (flow_from (sources_of programs)) cases rounds)
+
 -- the table of cases of these programs over their link, read over the programs' sources, and the link's line
 abbrev pub shared_text : List (ℕ × Built) → List Case → SharedCase → ℕ → List ℕ
 shared_text programs cases link rounds =
     table_text (case_names cases) (case_agents cases) (shared_rows link (flow_from (sources_of programs)) cases rounds)
-    ⧺ link_line (shared_counts link (flow_from (sources_of programs)) cases rounds)
+    ⧺ run_line programs cases link rounds
 
 -- that text of a scenario that was read
 abbrev pub text_of_scene : SharedScene → List ℕ

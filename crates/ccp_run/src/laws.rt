@@ -1,5 +1,6 @@
 //! The laws of the modes: bytes are an input or have one first refusal, and how modes' outputs agree.
 ghost use Rattle.ccp_run.specs.Settled.{AreInputsSettled};
+ghost use Rattle.ccp_run.specs.SharedLaws.{TellsSharedRows};
 ghost use Rattle.ccp_run.specs.TextLaws.{AuditsTimelines, ReadsAcksBack, TellsRows};
 
 /// The law of inputs: of each mode, bytes are an input or have one first refusal, and not both.
@@ -20,4 +21,10 @@ pub fn acks_read_back_law()
 /// A law: the row that `campaign` has of a flow agrees with the lines of its timeline.
 pub fn timeline_row_law()
     ensures { TellsRows }
+{}
+
+/// A law: the rows that `shared` has of the flows on a link agree, in order, with the lines of their parts in
+/// `shared-timeline`.
+pub fn shared_timeline_rows_law()
+    ensures { TellsSharedRows }
 {}

@@ -16,7 +16,9 @@ mod tool;
 
 pub use ccp_words::{Alone, ToolMode};
 pub use feed_core::{Epoch, Feed, FeedEnd, Flow};
-pub use laws::{acks_read_back_law, input_law, timeline_audited_law, timeline_row_law};
+pub use laws::{
+    acks_read_back_law, input_law, shared_timeline_rows_law, timeline_audited_law, timeline_row_law,
+};
 pub use outcome::{ModeOutput, Outcome};
 pub use refusal::{Limit, Refusal};
 pub use status::Status;

@@ -10,6 +10,8 @@ mod fold;
 mod live;
 mod rollout;
 mod shared;
+mod shared_scene;
+mod shared_series;
 mod soak;
 mod timeline;
 
@@ -32,6 +34,7 @@ use fold::read_fold;
 use live::read_live;
 use rollout::read_rollout;
 use shared::read_shared;
+use shared_series::{read_shared_acks, read_shared_timeline};
 use soak::soak_output;
 use std::alloc::Global;
 use std::sync::Wait;
@@ -109,6 +112,14 @@ pub fn run_asked<R: Threads + Wait + Sync, S: Source, K: Sink, E: Sink, G: Gate 
         }
         ToolMode::Acks => {
             let made = read_acks(rt, alloc, workers, source, gate);
+            end(alloc, made, sink, errors)
+        }
+        ToolMode::SharedTimeline => {
+            let made = read_shared_timeline(rt, alloc, workers, wire, source, gate);
+            end(alloc, made, sink, errors)
+        }
+        ToolMode::SharedAcks => {
+            let made = read_shared_acks(rt, alloc, workers, source, gate);
             end(alloc, made, sink, errors)
         }
     }

@@ -14,8 +14,8 @@ pub struct ModeOutput {
     pub text: Bytes,
     /// In `live` and `timeline` a book of each flow, in order; else none.
     pub books: Books,
-    /// In `check` and `fold` the program with its code, under the number 0; in `live`, `campaign`,
-    /// `soak`, `timeline` and `acks` all programs of the scenario; else none.
+    /// In `check` and `fold` the program with its code, under the number 0; in `live`, `campaign`, `soak`, `timeline`,
+    /// `acks`, `shared-timeline` and `shared-acks` all programs of the scenario; else none.
     pub programs: Builts,
     /// In `fold` how many instructions the program's code ran, one that faulted included; else 0.
     pub ran: u64,

@@ -4,13 +4,15 @@ use Rattle.std.specs.Str.{bytes_eq}
 use Rattle.ccp_words.specs.declared.mode.Alone.TheVariants.{Check, Fold, Feed, Audit}
 use Rattle.ccp_words.specs.declared.mode.ToolMode.{ToolMode}
 use Rattle.ccp_words.specs.declared.mode.ToolMode.TheVariants.{Alone, Live, Campaign, Soak, Rollout, Shared, Timeline, Acks}
+use Rattle.ccp_words.specs.declared.mode.ToolMode.TheVariants.{SharedTimeline, SharedAcks}
 
 -- each mode that is there, after its name
 abbrev pub modes : List (List ℕ × ToolMode)
 modes =
     (codes "check", Alone Check) ∷ (codes "fold", Alone Fold) ∷ (codes "feed", Alone Feed)
     ∷ (codes "audit", Alone Audit) ∷ (codes "live", Live) ∷ (codes "campaign", Campaign) ∷ (codes "soak", Soak)
-    ∷ (codes "rollout", Rollout) ∷ (codes "shared", Shared) ∷ (codes "timeline", Timeline) ∷ (codes "acks", Acks) ∷ []
+    ∷ (codes "rollout", Rollout) ∷ (codes "shared", Shared) ∷ (codes "timeline", Timeline) ∷ (codes "acks", Acks)
+    ∷ (codes "shared-timeline", SharedTimeline) ∷ (codes "shared-acks", SharedAcks) ∷ []
 
 abbrev pub mode_names : List (List ℕ)
 mode_names = map (λ mode. mode.0) modes

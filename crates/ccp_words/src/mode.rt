@@ -35,6 +35,10 @@ pub enum ToolMode {
     Timeline,
     /// A scenario's cases on workers, as the acknowledgements of each flow.
     Acks,
+    /// Several flows over one bottleneck, as the reports of each flow.
+    SharedTimeline,
+    /// Several flows over one bottleneck, as the acknowledgements of each flow.
+    SharedAcks,
 }
 
 /// A name that no mode has.
@@ -46,8 +50,19 @@ pub(crate) fn names<'a>() -> &'a [&'a str]
     ensures { map (λ name. name.now) result.now ≡ mode_names }
 {
     &[
-        "check", "fold", "feed", "audit", "live", "campaign", "soak", "rollout", "shared",
-        "timeline", "acks",
+        "check",
+        "fold",
+        "feed",
+        "audit",
+        "live",
+        "campaign",
+        "soak",
+        "rollout",
+        "shared",
+        "timeline",
+        "acks",
+        "shared-timeline",
+        "shared-acks",
     ]
 }
 
@@ -67,6 +82,8 @@ fn mode_named(name: &str) -> Option<ToolMode>
         "shared" => Some(ToolMode::Shared),
         "timeline" => Some(ToolMode::Timeline),
         "acks" => Some(ToolMode::Acks),
+        "shared-timeline" => Some(ToolMode::SharedTimeline),
+        "shared-acks" => Some(ToolMode::SharedAcks),
         _ => None,
     }
 }

@@ -76,7 +76,7 @@ const BEFORE_THE_OTHER: Waiting = (
     (0, Point::InCase, 10, Some(0)),
 );
 
-const SHARED: [Shared; 5] = [
+const SHARED: [Shared; 6] = [
     Shared {
         shows: "two workers run cases at once",
         mode: "campaign",
@@ -108,6 +108,15 @@ const SHARED: [Shared; 5] = [
     Shared {
         shows: "a short round ends",
         mode: "shared",
+        input: TWO_FLOWS,
+        one: FIRST_CASE,
+        other: SECOND_PART,
+        holds: 2,
+        begun: 4,
+    },
+    Shared {
+        shows: "a short round ends in a timeline",
+        mode: "shared-timeline",
         input: TWO_FLOWS,
         one: FIRST_CASE,
         other: SECOND_PART,

@@ -13,7 +13,7 @@ from . import link
 from .flow import Flow, Illegal, Programs, flows_of, forced
 from .judging import Refused, judged
 from .language import Fault, Meaning, State
-from .modes import acks, campaign, check_summary, fold, shared, timeline
+from .modes import acks, campaign, check_summary, fold, shared, shared_acks, shared_timeline, timeline
 
 __all__ = [
     "Fault",
@@ -32,5 +32,7 @@ __all__ = [
     "judged",
     "link",
     "shared",
+    "shared_acks",
+    "shared_timeline",
     "timeline",
 ]

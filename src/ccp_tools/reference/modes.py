@@ -1,7 +1,7 @@
 """What the modes print of an input, as docs/formats.md has it, by the reference model."""
 from __future__ import annotations
 
-from typing import Dict, List, Mapping, Sequence, Union
+from typing import Callable, Dict, List, Mapping, Sequence, Union
 
 from ..tables import COLUMNS, PRIMITIVES, SUMS
 from .flow import Acknowledgement, Members, fields_text, flows_of
@@ -51,6 +51,32 @@ def shared(scenario: Members) -> str:
     bottleneck = Bottleneck(scenario)
     bottleneck.run(flows)
     return table_text([flow.row() for flow in flows]) + bottleneck.line(flows) + "\n"
+
+
+def shared_timeline(scenario: Members) -> str:
+    """The text of `shared-timeline`, without `--wire`."""
+    flows = list(flows_of(scenario))
+    bottleneck = Bottleneck(scenario)
+    bottleneck.run(flows)
+    lines = [line for flow in flows for line in flow.lines()] + [bottleneck.line(flows)]
+    return "".join(line + "\n" for line in lines)
+
+
+def shared_acks(scenario: Members) -> str:
+    """The text of `shared-acks`."""
+    heard: List[List[str]] = [[] for _ in scenario["cases"]]
+    flows = list(flows_of(scenario))
+    for flow, lines in zip(flows, heard):
+        flow.heard = writer_of(lines)
+    bottleneck = Bottleneck(scenario)
+    bottleneck.run(flows)
+    parts = [line for flow, lines in zip(flows, heard) for line in [flow.head(), *lines]]
+    return "".join(line + "\n" for line in [*parts, bottleneck.line(flows)])
+
+
+def writer_of(lines: List[str]) -> Callable[[Acknowledgement], None]:
+    """What appends the line of each acknowledgement to these lines."""
+    return lambda ack: lines.append(ack_line(ack))
 
 
 def ack_line(ack: Acknowledgement) -> str:

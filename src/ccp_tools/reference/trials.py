@@ -244,6 +244,14 @@ def with_another_number(line: str) -> str:
     return line[: found.start()] + str(int(found.group(1)) + 1) + found.group(2)
 
 
+# the modes over one bottleneck, each with what it prints
+SHARED: Dict[str, Callable[[Dict[str, Any]], str]] = {
+    "shared": modes.shared,
+    "shared-timeline": modes.shared_timeline,
+    "shared-acks": modes.shared_acks,
+}
+
+
 def shared(draw: Random) -> Trial:
     """Flows over one bottleneck."""
     traits: Traits = set()
@@ -254,9 +262,10 @@ def shared(draw: Random) -> Trial:
         "quantum_us": draw.choice([1, 1000, 50_000, 1_000_000]),
         "rounds": draw.randrange(1, 200),
     }
-    expected = modes.shared(scenario)
+    mode = draw.choice(sorted(SHARED))
+    expected = SHARED[mode](scenario)
     workers = draw.choice([1, 2, 8, 32])
-    return Trial("shared", json.dumps(scenario).encode(), prints(expected), traits, {"workers": workers})
+    return Trial(mode, json.dumps(scenario).encode(), prints(expected), traits, {"workers": workers})
 
 
 # ---- modes without a reference: lines and statuses

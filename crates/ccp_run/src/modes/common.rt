@@ -1,6 +1,7 @@
 //! The parts of outputs that several modes share: the programs' frames, the text of books, the agents of cases.
 ghost use Rattle.std.specs.Prelude.{◌≡◌, ◌++◌, IfOk, length};
 ghost use Rattle.std.specs.List.{All};
+ghost use Rattle.campaign_report.specs.BookText.{books_text};
 ghost use Rattle.ccp_run.specs.Campaign.{case_agents, frames_shown};
 ghost use Rattle.ccp_run.specs.Live.{IsRightBook, books_written};
 
@@ -35,15 +36,17 @@ pub fn agents(alloc: Global, cases: &[Case]) -> Result<Agents, NoMemory>
     Ok(agents)
 }
 
-/// The live text of the books, after the programs' frames if `wire` asks for them.
+/// The text of the books, after the programs' frames if `wire` asks for them. If each book has the state after its word,
+/// it is the live text of these words.
 pub fn books_text(
     alloc: Global,
     wire: bool,
     books: &Books,
     programs: &Builts,
 ) -> Result<Bytes, NoMemory>
-    requires { All (IsRightBook programs.now) books.now }
-    ensures { IfOk result (λ text. text ≡ books_written wire programs.now books.now) }
+    ensures text { IfOk result (λ text. text ≡ frames_shown wire programs.now ++ books_text programs.now books.now) }
+    ensures live { All (IsRightBook programs.now) books.now
+        → IfOk result (λ text. text ≡ books_written wire programs.now books.now) }
 {
     let mut text = frames(alloc, wire, programs)?;
     text.extend(live_text(alloc, books.as_slice(), programs)?.as_slice())?;

@@ -1,5 +1,5 @@
 //! The mode `shared`: flows on one link, as their table and the line of the link's packets.
-ghost use Rattle.std.specs.Prelude.{◌≡◌, ◌≤◌, ◌++◌, [], OnOk, IfOk, IfErr, length, map};
+ghost use Rattle.std.specs.Prelude.{◌≡◌, ◌≤◌, ◌++◌, [], IfOk, length, map};
 ghost use Rattle.std.specs.List.{All};
 ghost use Rattle.ccp_base.specs.Limits.{most_cases, most_flows, most_rounds};
 ghost use Rattle.campaign_report.specs.TableText.{table_text};
@@ -7,11 +7,12 @@ ghost use Rattle.scene_core.specs.CasePlans.{plan_of, AreFlowsFrom, flow_link_of
 ghost use Rattle.scenario_json.specs.Cases.{case_names, IsCoded, AreNumberedFrom};
 ghost use Rattle.shared_link.specs.SharedLimits.{IsWithin};
 ghost use Rattle.ccp_run.specs.Attempts.{IsOutputOrRefusal, IsAttempt};
-ghost use Rattle.ccp_run.specs.Shared.{IsSharedScenario, StopsShared, link_line, text_of_scene};
+ghost use Rattle.ccp_run.specs.Shared.{link_line, text_of_scene};
 ghost use Rattle.ccp_run.specs.Streams.{stream_change};
 ghost use Rattle.ccp_run.specs.Modes.{Task};
 
 use crate::modes::common::agents;
+use crate::modes::shared_scene::{put_link_line, read_shared_scene};
 use crate::outcome::ModeOutput;
 use crate::reading::read_bytes;
 use crate::refusal::Limit;
@@ -19,8 +20,6 @@ use crate::stop::Stop;
 use campaign_report::{Agents, table_text};
 use ccp_base::{Bytes, Gate, Names, NoMemory, Source, Workers};
 use scenario_json::SharedScene;
-use scenario_json::calls::shared_scene;
-use shared_link::Counts;
 use shared_run::{SharedRows, shared_rows};
 use std::alloc::Global;
 use std::sync::Wait;
@@ -53,22 +52,6 @@ fn shared_output<R: Threads + Wait + Sync, G: Gate + Sync>(
 {
     let scene = read_shared_scene(alloc, bytes)?;
     Ok(run_together(rt, alloc, workers, scene, gate)?)
-}
-
-// A function of its own: the lemmas about the link and a scenario's fault are searched with here, not in the caller.
-/// The scenario of flows on one link that the bytes stand for.
-#[tactic(auto, using(crate::proofs::SharedLemmas::link_within, crate::proofs::ScenarioInputs::scene_stops))]
-fn read_shared_scene(alloc: Global, bytes: &[u8]) -> Result<SharedScene, Stop>
-    ensures found { IfOk result (λ s. IsSharedScenario bytes.now s.scene.programs s.scene.cases s.link s.rounds) }
-    ensures numbered { IfOk result (λ s. AreNumberedFrom 0 s.scene.programs) }
-    ensures names { IfOk result (λ s. s.scene.names ≡ case_names s.scene.cases) }
-    ensures few { IfOk result (λ s. length s.scene.cases ≤ most_flows) }
-    ensures link { IfOk result (λ s. IsWithin s.link) }
-    ensures links { IfOk result (λ s. map link_at_once s.link.flows ≡ map flow_link_of (map plan_of s.scene.cases)) }
-    ensures rounds { IfOk result (λ s. s.rounds ≤ most_rounds) }
-    ensures err { IfErr result (StopsShared bytes.now) }
-{
-    Ok(shared_scene(alloc, bytes)?)
 }
 
 /// The output for the flows of a scenario on their link.
@@ -112,7 +95,7 @@ fn shared_text(
     ensures { IfOk result (λ text. text ≡ table_text names.now agents.now made.now.rows ++ link_line made.now.counts) }
 {
     let mut text = table_text(alloc, names, agents, &made.rows)?;
-    put_line(alloc, &mut text, &made.counts)?;
+    put_link_line(alloc, &mut text, &made.counts)?;
     Ok(text)
 }
 
@@ -121,16 +104,4 @@ fn copy_names(alloc: Global, names: &Names) -> Result<Names, NoMemory>
     ensures { IfOk result (λ copy. copy ≡ names.now) }
 {
     Ok(Names::from_vec(names.as_slice().to_vec(alloc)?))
-}
-
-/// Appends the line of a link's packets to a text.
-fn put_line(alloc: Global, text: &mut Bytes, counts: &Counts) -> Result<(), NoMemory>
-    ensures { OnOk result (text.new ≡ text.old ++ link_line counts.now) }
-{
-    let line = format!(in alloc;
-        "link rounds={} sent={} acked={} lost={} inflight={}\n",
-        counts.rounds, counts.sent, counts.acked, counts.lost, counts.inflight
-    )?;
-    text.extend(line.as_bytes())?;
-    Ok(())
 }

@@ -1,5 +1,5 @@
 use Rattle.std.proofs.Common.{ap, refl, sym, subst}
-use Rattle.ccp_run.specs.Modes.{Task, Live, Campaign, Soak, Rollout, Shared, Timeline, Acks, task_in}
+use Rattle.ccp_run.specs.Modes.{Task, Live, Campaign, Soak, Rollout, Shared, Timeline, Acks, SharedTimeline, SharedAcks, task_in}
 use Rattle.ccp_run.specs.Run.{IsRun}
 use Rattle.ccp_run.specs.Streams.{StreamChange, stream_change}
 use Rattle.ccp_run.proofs.RunLemmas.{run_of}
@@ -75,3 +75,23 @@ returns-in-Acks g c =
     subst (λ (task : Task). IsRun task source sink errors is_finished c.end-in-Acks.result) (sym (ap (λ mode. task_in mode c.args.asked) c.in-Acks.is))
     (run_of (Acks) refl source sink errors is_finished c.end-in-Acks.result c.read_acks-made.result
     c.read_acks-made.ensures c.end-in-Acks.ensures)
+
+pub returns-in-SharedTimeline : goal.returns-in-SharedTimeline
+returns-in-SharedTimeline g c =
+    let source : StreamChange = stream_change g.S.Source.remaining g.S.Source.faults c.args.source.now c.read_shared_timeline-made.new.source in
+    let sink : StreamChange = stream_change g.K.Sink.written g.K.Sink.faults c.args.sink.now c.end-in-SharedTimeline.new.sink in
+    let errors : StreamChange = stream_change g.E.Sink.written g.E.Sink.faults c.args.errors.now c.end-in-SharedTimeline.new.errors in
+    let is_finished = g.K.Sink.is_finished c.end-in-SharedTimeline.new.sink in
+    subst (λ (task : Task). IsRun task source sink errors is_finished c.end-in-SharedTimeline.result) (sym (ap (λ mode. task_in mode c.args.asked) c.in-SharedTimeline.is))
+    (run_of (SharedTimeline c.args.asked.wire) refl source sink errors is_finished c.end-in-SharedTimeline.result c.read_shared_timeline-made.result
+    c.read_shared_timeline-made.ensures c.end-in-SharedTimeline.ensures)
+
+pub returns-in-SharedAcks : goal.returns-in-SharedAcks
+returns-in-SharedAcks g c =
+    let source : StreamChange = stream_change g.S.Source.remaining g.S.Source.faults c.args.source.now c.read_shared_acks-made.new.source in
+    let sink : StreamChange = stream_change g.K.Sink.written g.K.Sink.faults c.args.sink.now c.end-in-SharedAcks.new.sink in
+    let errors : StreamChange = stream_change g.E.Sink.written g.E.Sink.faults c.args.errors.now c.end-in-SharedAcks.new.errors in
+    let is_finished = g.K.Sink.is_finished c.end-in-SharedAcks.new.sink in
+    subst (λ (task : Task). IsRun task source sink errors is_finished c.end-in-SharedAcks.result) (sym (ap (λ mode. task_in mode c.args.asked) c.in-SharedAcks.is))
+    (run_of (SharedAcks) refl source sink errors is_finished c.end-in-SharedAcks.result c.read_shared_acks-made.result
+    c.read_shared_acks-made.ensures c.end-in-SharedAcks.ensures)

@@ -12,23 +12,19 @@ use Rattle.ccp_run.specs.Timeline.{planned_by}
 use Rattle.ccp_run.proofs.TimelineLemmas.{right_of, flows_planned}
 use Rattle.ccp_run.proofs.modes.timeline.run_timeline.Goals as goal
 
-pub books_text-requires : goal.books_text-requires
-books_text-requires g c =
-    let scene = c.args.scene in
-    right_of scene.programs c.requires.numbered c.in_ok-books.ensures.source scene.cases c.in_ok-books.books c.requires.coded c.in_ok-books.ensures.books
-
 pub returns-clause-tells : goal.returns-clause-tells
 returns-clause-tells g c =
     let scene = c.args.scene in
     let programs = scene.programs in
     let made = c.with_books.ensures in
-    let text : c.in_ok-text.text ≡ books_written c.args.wire programs c.in_ok-books.books = search rules in
+    let right_books : All (IsRightBook programs) c.in_ok-books.books =
+    right_of programs c.requires.numbered c.in_ok-books.ensures.source scene.cases c.in_ok-books.books c.requires.coded c.in_ok-books.ensures.books in
+    let text : c.in_ok-text.text ≡ books_written c.args.wire programs c.in_ok-books.books = c.in_ok-text.ensures.live right_books in
     let planned : flows_of c.in_ok-books.books ≡ planned_by (sources_of programs) scene.cases =
     flows_planned programs c.requires.numbered c.in_ok-books.ensures.source scene.cases c.in_ok-books.books c.requires.coded c.in_ok-books.ensures.books in
     record {
       books = ap flows_of made.books ∙ planned;
-      right = subst (All (IsRightBook programs)) (sym made.books)
-          (right_of programs c.requires.numbered c.in_ok-books.ensures.source scene.cases c.in_ok-books.books c.requires.coded c.in_ok-books.ensures.books);
+      right = subst (All (IsRightBook programs)) (sym made.books) right_books;
       written = made.text ∙ text ∙ ap (λ (flows : List (Case × List Letter)). frames_shown c.args.wire programs ⧺ live_text (sources_of programs) flows) planned;
       idle = made.ran;
     }
