@@ -6,6 +6,7 @@
     ccp plot delay --scenario SCENARIO [--flows 0,2] ACKS FILE..
     ccp plot cdf [--scenario SCENARIO] [--flows 0,2] ACKS FILE..
     ccp plot table [--scenario SCENARIO] [--timeline TIMELINE] TABLE FILE..
+    ccp plot shares [--scenario SCENARIO] [--window-ms W] ACKS FILE..
     ccp plot shares [--steps 50] SCENARIO FILE..
 
 `bars` and `scatter` plot what `ccp metrics` writes as JSON or CSV. Over seeds bars are means with 95 % intervals, and
@@ -17,8 +18,10 @@ a decade, and two strokes mark an axis that doesn't begin at 0.
 marks where packets were lost, where there was a timeout, and where the agent changed the program. With the
 acknowledgements its values are means of windows of time, else those of the reports. A line breaks where reports were
 held, and in a gap of the trace. `delay` shows the round-trip time of each packet over time beside its distribution,
-`cdf` the distributions alone, and `table` throughput, loss and queueing delay of a table. `shares` runs `ccp shared`
-and shows each flow's share of the bottleneck over time and Jain's index.
+`cdf` the distributions alone, and `table` throughput, loss and queueing delay of a table. `shares` shows what each flow
+of a shared link got over time, its share, Jain's index over the flows that have started and not ended, and how long the
+packets waited in the queue, from a text of `shared-acks`; its scenario gives the queue, the link's capacity and when
+flows start. Of a scenario alone it runs `ccp shared` once for each step, and shows the shares and Jain's index.
 
 --size column (252 points wide) and --size page (516) are for papers, with small text; WxH is in points, 72 to an inch.
 A file has at most 8 senders and 32 bars; what doesn't fit comes on further pages: of a PDF in the same file, else in
@@ -45,13 +48,14 @@ from matplotlib.lines import Line2D
 from matplotlib.patches import Patch
 from matplotlib.ticker import FuncFormatter, LogLocator, MaxNLocator, NullFormatter
 
-from . import metrics, program, texts
+from . import metrics, program, shares as over_time, texts
 from .arguments import add_ccp, deprecated, list_of, whole
 from .errors import CcpError
 from .files import name_of, read_text, reason_of
-from .frames import AckFrame, Timeline, acks_in, read_timeline
+from .frames import AckFrame, Timeline, acks_in, read_acks, read_timeline
 from .metrics import SHOWN, Link
-from .scenario_files import read_scenario
+from .scenario_files import read_scenario, scenario_of
+from .shares import window_us
 
 Item = TypeVar("Item")
 KINDS = (".svg", ".png", ".pdf", ".eps")
@@ -763,16 +767,6 @@ def delay_row(over: Axes, beside: Axes, flows: Sequence[Named], senders: List[st
 # ---- flows over time
 
 
-def window_us(end_us: float) -> int:
-    """The length of the windows of time, 1, 2 or 5 times a power of ten milliseconds: 100 to 250 of them."""
-    length = 1000.0
-    for factor in (2, 2.5, 2) * 9:
-        if end_us / length <= 250:
-            break
-        length *= factor
-    return round(length)
-
-
 @dataclass
 class Series:
     """What is plotted of a flow: times in seconds and values of throughput, window and round-trip time, with nan where
@@ -1035,23 +1029,32 @@ def shared_runs(scenario: Mapping[str, Any], steps: int, path: str | None) -> Tu
 
 
 def shares(
-    names: Sequence[str], times: Sequence[float], acked: np.ndarray, look: Look = Look(), capacity: Any = None
+    names: Sequence[str],
+    times: Sequence[float],
+    acked: np.ndarray,
+    look: Look = Look(),
+    capacity: Any = None,
+    active: np.ndarray | None = None,
+    queue: pd.DataFrame | None = None,
 ) -> Figure:
-    """Each flow's throughput and share of a bottleneck over time, and Jain's index. `times` are in seconds, and
-    `acked` has the bytes acknowledged up to each of them, a column a flow. `capacity` are Mbit/s between the times."""
+    """Each flow's throughput and share of a bottleneck over time, Jain's index, and the queue. `times` are in seconds,
+    and `acked` has the bytes acknowledged up to each of them, a column a flow. Between the times, `capacity` are
+    Mbit/s, `active` says which flows take part (without it all), and `queue` is as shares.waits_in has it."""
     legend: Dict[str, Any] = {name: line_key(at) for at, name in enumerate(names)}
     if capacity is not None:
         legend["link"] = link_key()
-    sheet = Sheet(look, legend, [9.5, 9.5, 6.0])
+    sheet = Sheet(look, legend, [9.5, 9.5, 6.0] + [6.0] * (queue is not None))
     figure = sheet.figure()
-    got, edges = np.diff(acked, axis=0), np.array(times)
-    total = got.sum(axis=1)
+    edges = np.array(times)
+    got = pd.DataFrame(np.diff(acked, axis=0))
+    is_on = pd.DataFrame(np.ones(got.shape, bool) if active is None else active)
+    is_shown = is_on | (got > 0)
+    rates, parts = over_time.throughput_mbps(got, 1e6 * edges), 100 * over_time.shares_of(got)
     if capacity is not None:
         sheet.axes[0].stairs(capacity, edges, fill=True, color=GREY)
     for at in range(len(names)):
-        rates = 8 * got[:, at] / np.diff(edges) / 1e6
-        parts = np.where(total > 0, 100 * got[:, at] / np.where(total > 0, total, 1), np.nan)
-        for panel, values in zip(sheet.axes, (rates, parts)):
+        for panel, frame in zip(sheet.axes, (rates, parts)):
+            values = frame[at].where(is_shown[at]).to_numpy()
             panel.stairs(
                 values, edges, baseline=None, linewidth=matplotlib.rcParams["lines.linewidth"], **line_look(at)
             )
@@ -1059,15 +1062,55 @@ def shares(
             places = np.arange(at * every // len(names), len(values), every)
             middle = (edges[places] + edges[places + 1]) / 2
             panel.plot(middle, values[places], linestyle="", marker=MARKS[at % 8], color=COLOURS[at % 8])
-    index = [metrics.jain(list(row)) for row in got]
-    sheet.axes[2].stairs(
-        [math.nan if value is None else value for value in index], edges, baseline=None, color="black", linewidth=1.5
-    )
+    sheet.axes[2].stairs(over_time.jain_in(got, is_on), edges, baseline=None, color="black", linewidth=1.5)
     for panel, label, top in zip(sheet.axes, ("throughput [Mbit/s]", "share [%]", "Jain's index"), (None, 100, 1.05)):
         panel.set(ylabel=label, ylim=(0, top))
+    if queue is not None:
+        draw_queue(sheet.axes[3], edges, queue)
     stack(sheet, "virtual time [s]")
     sheet.axes[-1].set_xlim(0, edges[-1])
     return figure
+
+
+def draw_queue(panel: Axes, edges: np.ndarray, queue: pd.DataFrame) -> None:
+    """The mean wait of each window as a line, over a band from the least wait to the greatest."""
+    panel.stairs(queue["most_ms"], edges, baseline=queue["least_ms"].to_numpy(), fill=True, color=GREY, linewidth=0)
+    panel.stairs(queue["mean_ms"], edges, baseline=None, color="black", linewidth=1.5)
+    panel.set(ylabel="queue [ms]", ylim=(0, 1.08 * queue["most_ms"].max() or 1))
+
+
+def shares_of_acks(
+    text: str, scenario: Mapping[str, Any] | None, length_us: int | None = None, look: Look = Look()
+) -> Figure:
+    """The shares of a text of `shared-acks` in windows of `length_us`. Its scenario gives the capacity of the link, the
+    queue, and when flows start and end; without it those are left out, and a flow is taken to start with the sending of
+    its first acknowledged packet. Errors: CcpError, also where the text is of another scenario."""
+    acks, packets = read_acks(text), texts.read_link(text)
+    run = metrics.shared_run(scenario, packets) if scenario else None
+    if scenario and run:
+        metrics.check_cases(scenario, list(acks["case"].cat.categories), "the acknowledgements")
+        found = over_time.flows_of(acks, scenario, run.end_us)
+    else:
+        found = over_time.flows_seen(acks)
+    end_us = run.end_us if run else int(found["end_us"].max())
+    edges = over_time.edges_us(end_us, length_us or window_us(max(end_us, 1), over_time.WINDOWS))
+    check_shares(found, edges)
+    got = over_time.counted_in(acks, found, edges, "bytes_acked")
+    acked = np.vstack([np.zeros((1, len(found))), got.cumsum().to_numpy()])
+    active, capacity, queue = over_time.active_in(found, edges).to_numpy(), None, None
+    if scenario and run:
+        chances = over_time.chances_in(Link(scenario).trace(run.trace), edges)
+        capacity = 8 * max(case["mss"] for case in scenario["cases"]) * chances / np.diff(edges)
+        queue = over_time.waits_in(over_time.waits_of(acks, found), edges)
+    return shares(list(found["case"]), edges / 1e6, acked, look, capacity, active, queue)
+
+
+def check_shares(found: pd.DataFrame, edges: np.ndarray) -> None:
+    """Refuses what a plot of shares can't show: no flow, too many of them, or a run shorter than a window."""
+    if not 1 <= len(found) <= MOST_SENDERS:
+        raise CcpError("%s: a plot of shares has 1 to %d" % (metrics.counted(len(found), "flow"), MOST_SENDERS))
+    if len(edges) < 2:
+        raise CcpError("the run is shorter than a window of time: a smaller --window-ms is needed")
 
 
 # ---- files
@@ -1224,14 +1267,20 @@ def add_arguments(parser: argparse.ArgumentParser) -> None:
     made.add_argument("--scenario", metavar="SCENARIO", help="its scenario, for traces and senders")
     made.add_argument("--timeline", metavar="TIMELINE", help="what `timeline` printed of it, for the queueing delay")
     made = add_kind(
-        kinds, "shares", "each flow's share of a bottleneck over time", "a scenario of `shared`", "SCENARIO"
+        kinds,
+        "shares",
+        "each flow's share of a bottleneck over time",
+        "what `shared-acks` printed, or a scenario of `shared`, which is run",
+        "ACKS",
     )
+    made.add_argument("--scenario", metavar="SCENARIO", help="its scenario, for the link's capacity and the queue")
+    made.add_argument("--window-ms", type=whole(1, 10**6), metavar="W", help=metrics.WINDOW_HELP)
     made.add_argument(
         "--steps",
         type=whole(2, 1000),
         default=50,
         metavar="N",
-        help="points of time, for each of which `shared` is run (50)",
+        help="of a scenario: points of time, for each of which `shared` is run (50)",
     )
     add_ccp(made)
 
@@ -1388,7 +1437,20 @@ def split_name(row: Mapping[str, Any]) -> Tuple[str, str] | None:
 
 
 def pages_of_shares(arguments: argparse.Namespace) -> List[Figure]:
-    scenario = read_scenario(arguments.text)
+    text, look = read_text(arguments.text), look_of(arguments)
+    if not text.startswith("flow "):
+        return [shares_of_scenario(scenario_of(text, name_of(arguments.text)), arguments, look)]
+    scenario = read_scenario(arguments.scenario) if arguments.scenario else None
+    if scenario is None and not arguments.quiet:
+        note("--scenario gives the link's capacity and the queue")
+    try:
+        return [shares_of_acks(text, scenario, arguments.window_ms and 1000 * arguments.window_ms, look)]
+    except CcpError as error:
+        raise CcpError("%s: %s" % (name_of(arguments.text), error)) from None
+
+
+def shares_of_scenario(scenario: Mapping[str, Any], arguments: argparse.Namespace, look: Look) -> Figure:
+    """The shares of a scenario, for which the program is run."""
     shared = scenario.get("shared")
     if not isinstance(shared, dict) or not isinstance(shared.get("rounds"), int):
         raise CcpError(
@@ -1398,7 +1460,7 @@ def pages_of_shares(arguments: argparse.Namespace) -> List[Figure]:
     if len(names) > MOST_SENDERS:
         raise CcpError("%d flows: a plot of shares has at most %d" % (len(names), MOST_SENDERS))
     times, acked = shared_runs(scenario, arguments.steps, arguments.ccp)
-    return [shares(names, times, acked, look_of(arguments))]
+    return shares(names, times, acked, look)
 
 
 PAGES: Dict[str, Callable[[argparse.Namespace], List[Figure]]] = {
