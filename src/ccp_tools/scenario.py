@@ -27,6 +27,10 @@ packets are lost. --seeds 1..20 repeats each loss by chance with each seed; `rat
 seed of their own. Equal seeds lose the same packets in every case, whatever the trace, the sender and the queue. Losses
 are drawn for the first 2*acks packets of a flow; packets after these are lost by the queue alone.
 
+Flows on one link. --shared TRACE:QUEUE:QUANTUM-MS[:ROUNDS] gives all flows one link. --start says when each of them
+begins, in seconds of the link's time: a value for each flow in order, as 0,5,10, or the time from each flow's start to
+the next one's: --start 5 starts the first at 0 s, the second at 5 s, the third at 10 s.
+
 Length. A case ends after --acks acknowledgements. --seconds S computes them for each trace and delay: as many as the
 link has chances in the first S seconds less the delay. So a sender that keeps the link busy ends at about S seconds,
 and a slower one later. With --shared, S is the length of the run.
@@ -131,6 +135,16 @@ def steps(text: str) -> Steps:
             "%s isn't 1 to %d names of programs with + between" % (shown(text), LIMITS["steps"])
         )
     return Steps(tuple(names))
+
+
+def start(text: str) -> int:
+    """A parser of a flow's start in seconds, as microseconds."""
+    value = thousandths(text)
+    if value is None or 1000 * value > LIMITS["start_us"]:
+        most = LIMITS["start_us"] // 10**6
+        what = "%s isn't a number of seconds from 0 to %d with at most three decimals"
+        raise argparse.ArgumentTypeError(what % (shown(text), most))
+    return 1000 * value
 
 
 def shared(text: str) -> Dict[str, Any]:

@@ -1,7 +1,7 @@
 """All senders of a comparison together over each trace: their shares over time, Jain's index, and the link's losses.
 
-`shared` prints one row a flow, so the bottleneck is looked at in steps: a run of fewer rounds is the beginning of one
-of more."""
+`shared-acks` prints when each flow got what. Of a program without that mode `shared` is run once for each step: a run
+of fewer rounds is the beginning of one of more."""
 
 from __future__ import annotations
 
@@ -12,9 +12,10 @@ from pathlib import Path
 from typing import Any, Dict, List, Mapping, Sequence, Tuple
 
 import numpy as np
+import pandas as pd
 from matplotlib.figure import Figure
 
-from .. import metrics, plots, program, texts
+from .. import frames, metrics, plots, program, shares, texts
 from ..metrics import Link, Window
 from ..plots import Look
 from ..scenario_files import Scenario, write_scenario
@@ -31,7 +32,8 @@ FAIR = 0.95
 @dataclass(frozen=True)
 class Sharing:
     """What the senders did together over a trace. `times` are in seconds, and `acked` has the bytes acknowledged up to
-    each, a column a flow. `converged_s` is None where the flows don't converge."""
+    each, a column a flow. `converged_s` is None where the flows don't converge. `queue` is as shares.waits_in has it
+    between the times, or None where the program has no mode `shared-acks`."""
 
     trace: str
     names: List[str]
@@ -39,6 +41,7 @@ class Sharing:
     acked: np.ndarray
     rows: List[Dict[str, Any]]
     converged_s: float | None
+    queue: pd.DataFrame | None = None
 
 
 def scenario_of(scenario: Scenario, trace: str, numbers: Sequence[int], span_us: int) -> Scenario:
@@ -51,6 +54,27 @@ def scenario_of(scenario: Scenario, trace: str, numbers: Sequence[int], span_us:
     shared = {"trace": trace, "queue": cases[0]["queue"], "quantum_us": quantum_us, "rounds": rounds}
     traces = {trace: scenario["traces"][trace]}
     return {**scenario, "traces": traces, "shared": shared, "cases": [{**case, "acks": acks} for case in cases]}
+
+
+def over_time(scenario: Scenario, path: Path) -> Tuple[List[float], np.ndarray, pd.DataFrame | None]:
+    """What flows got over time: the members `times`, `acked` and `queue` of Sharing."""
+    if not program.knows_mode("shared-acks", path):
+        return (*plots.shared_runs(scenario, STEPS, str(path)), None)
+    text = program.run("shared-acks", scenario, program=path).output
+    acks, rounds = frames.read_acks(text), texts.read_link(text)["rounds"]
+    shared = scenario["shared"]
+    edges = steps_us(shared, rounds)
+    flows = shares.flows_of(acks, scenario, rounds * shared["quantum_us"])
+    got = shares.counted_in(acks, flows, edges, "bytes_acked").cumsum().to_numpy(dtype=float)
+    queue = shares.waits_in(shares.waits_of(acks, flows), edges)
+    return list(edges / 1e6), np.vstack([np.zeros((1, len(flows))), got]), queue
+
+
+def steps_us(shared: Mapping[str, Any], rounds: int) -> np.ndarray:
+    """The ends of STEPS equal parts of the rounds that a run may have, in microseconds, up to those that it had; 0 comes
+    first."""
+    ends = [max(1, shared["rounds"] * step // STEPS) for step in range(1, STEPS + 1)]
+    return np.unique([0, *(min(end, rounds) for end in ends)]).astype(np.int64) * shared["quantum_us"]
 
 
 def converged(times: Sequence[float], acked: np.ndarray) -> float | None:
@@ -79,18 +103,24 @@ def run_all(
         (folder / ("shared-%s.txt" % trace)).write_text(printed)
         table = texts.read_table(printed)
         frame = metrics.figures(one, table=table)
-        times, acked = plots.shared_runs(one, STEPS, str(path))
+        times, acked, queue = over_time(one, path)
         rows = metrics.rows_of(frame)
         names = [str(row["sender"]) for row in rows]
-        made.append(Sharing(trace, names, times, acked, rows, converged(times, acked)))
+        made.append(Sharing(trace, names, times, acked, rows, converged(times, acked), queue))
     return made
 
 
 def jobs_of(found: Sequence[Sharing], scenario: Scenario, look: Look) -> List[Tuple[str, str, str, Any]]:
     """The plots of what was shared, as report.drawn_all takes them."""
-    what = "All senders at once over one link: throughput with the link's capacity in grey, shares, and Jain's index."
+    what = "All senders at once over one link: throughput with the link's capacity in grey, shares, and Jain's index%s."
+    queue = ", and the time that packets waited in the queue: its mean over the range of all packets"
     return [
-        ("shared-" + one.trace, "Sharing one link: " + one.trace, what, partial(pages_of, one, scenario, look))
+        (
+            "shared-" + one.trace,
+            "Sharing one link: " + one.trace,
+            what % ("" if one.queue is None else queue),
+            partial(pages_of, one, scenario, look),
+        )
         for one in found
     ]
 
@@ -101,7 +131,7 @@ def pages_of(one: Sharing, scenario: Scenario, look: Look) -> List[Figure]:
     edges = [round(time * 1e6) for time in one.times]
     counts = np.array([link.chances(one.trace, edge) if edge else 0 for edge in edges])
     capacity = 8 * mss * np.diff(counts) / np.diff(np.array(edges))
-    return [plots.shares(one.names, one.times, one.acked, look, capacity)]
+    return [plots.shares(one.names, one.times, one.acked, look, capacity, queue=one.queue)]
 
 
 def table_of(found: Sequence[Sharing]) -> List[Dict[str, Any]]:
