@@ -523,6 +523,20 @@ def test_times_in_other_units(program: Path) -> None:
     assert explained(program, json.dumps(whole), status=0).count("warning:") == 1
 
 
+def test_starts_of_flows(program: Path) -> None:
+    """A case's start is read for a shared link alone."""
+    text = scenario(start_us=20)
+    ignored = "`start_us` is ignored by `campaign`"
+    explained(program, text, "campaign", status=0, holds=[ignored, "1 warning"], lacks=["20 microseconds"])
+    whole = {**json.loads(text), "shared": {"trace": "t", "queue": 9, "quantum_us": 1000, "rounds": 9}}
+    holds = ["`start_us` is 20 microseconds", "1 warning"]
+    explained(program, json.dumps(whole), "shared", status=0, holds=holds, lacks=["ignored"])
+    found = scenario_refusals.refusal_of(
+        scenarios.Scenario("row", json.dumps(whole)), "shared", "range cases[0].start_us"
+    )
+    assert "a whole number from 0 to 10000000000" in " ".join(found.hints)
+
+
 def test_warnings_of_programs_in_scenarios(program: Path) -> None:
     whole = json.loads(scenario(ss="mine", ca="mine"))
     whole["programs"] = {"mine": "(def)\n# \u00fc\n(when true (:= cwnd 5)\n (:= Cwnd 5) (report))"}

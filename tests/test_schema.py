@@ -159,6 +159,6 @@ def test_it_takes_the_examples(name: str) -> None:
 
 def test_each_member_has_a_description() -> None:
     rules = scenarios.Rules()
-    for of in ("whole", "case", "rolloutCase", "bottleneck"):
+    for of in ("whole", "case", "sharedCase", "rolloutCase", "bottleneck"):
         for name in rules.members(of):
             assert len(rules.allowed(of, name)) > 20, "%s of %s" % (name, of)

@@ -7,10 +7,10 @@ from . import program_warnings
 from .findings import Finding, cut, nearest
 from .json_places import Value
 from .scenario_refusals import NOTES, place_within
-from .scenarios import Scenario, reads
+from .scenarios import CASES, Scenario, reads
 
 # times in microseconds that are written in other units by mistake, each with an example
-TIMES = {"delay_us": "20 ms are 20000", "timeout_us": "1 s is 1000000"}
+TIMES = {"delay_us": "20 ms are 20000", "timeout_us": "1 s is 1000000", "start_us": "1 s is 1000000"}
 LEAST_TIME = 1000
 
 
@@ -22,7 +22,7 @@ def warnings_of(scenario: Scenario, mode: str, is_accepted: bool = True) -> List
     for of, value in objects(scenario, mode):
         found += twice(value)
         found += unknown(scenario, mode, of, value) if of else []
-    found += [*unused(scenario, mode), *of_cases(scenario)]
+    found += [*unused(scenario, mode), *of_cases(scenario, mode)]
     return found + list(of_programs(scenario, mode)) if is_accepted else found
 
 
@@ -52,7 +52,7 @@ def twice(value: Value) -> Iterator[Finding]:
 def unknown(scenario: Scenario, mode: str, of: str, value: Value) -> Iterator[Finding]:
     """Members that `ccp` ignores."""
     known = scenario.rules.members(of)
-    others = others_of(scenario, mode, of)
+    others = others_of(scenario, of)
     for name in value.names():
         key = value.members(name)[-1][0]
         if name in known or (of == "whole" and name == "shared" and reads(mode) == "shared"):
@@ -67,13 +67,12 @@ def unknown(scenario: Scenario, mode: str, of: str, value: Value) -> Iterator[Fi
             yield Finding("warning", key.start, key.end, "`%s` is ignored: ccp knows no such member" % cut(name))
 
 
-def others_of(scenario: Scenario, mode: str, of: str) -> Sequence[str]:
+def others_of(scenario: Scenario, of: str) -> Sequence[str]:
     """The members that an object has in another mode."""
     if of == "whole":
         return ["shared"]
-    if of not in ("case", "rolloutCase"):
-        return []
-    return list(scenario.rules.members("case" if reads(mode) == "rollout" else "rolloutCase"))
+    kinds = ("case", *CASES.values())
+    return [name for kind in kinds for name in scenario.rules.members(kind)] if of in kinds else []
 
 
 def is_note(name: str) -> bool:
@@ -103,7 +102,7 @@ def texts_of(users: Sequence[Value], members: Sequence[str]) -> Set[str]:
     return {value.is_ for value in values + lists if value is not None and value.kind == "text"}
 
 
-def of_cases(scenario: Scenario) -> Iterator[Finding]:
+def of_cases(scenario: Scenario, mode: str) -> Iterator[Finding]:
     """Cases of one name, times that look like milliseconds or seconds, and no cases."""
     seen: Dict[str, int] = {}
     for index, case in enumerate(scenario.cases()):
@@ -113,16 +112,17 @@ def of_cases(scenario: Scenario) -> Iterator[Finding]:
                 what = "the cases %d and %d have one name" % (seen[name.is_], index)
                 yield Finding("warning", name.start, name.end, what)
             seen.setdefault(name.is_, index)
-    yield from of_times(scenario)
+    yield from of_times(scenario, mode)
     assert scenario.whole is not None
     cases = scenario.whole.member("cases")
     if cases is not None and not scenario.cases() and cases.kind == "array":
         yield Finding("warning", cases.start, cases.end, "there are no cases")
 
 
-def of_times(scenario: Scenario) -> Iterator[Finding]:
-    """Times below a millisecond, once for each member and value; 0 is meant."""
-    for member, example in TIMES.items():
+def of_times(scenario: Scenario, mode: str) -> Iterator[Finding]:
+    """Times below a millisecond that the mode reads, once for each member and value; 0 is meant."""
+    known = scenario.rules.members(scenario.case_kind(mode))
+    for member in [name for name in TIMES if name in known]:
         seen: Set[int] = set()
         for case in scenario.cases():
             value = case.member(member)
@@ -130,7 +130,7 @@ def of_times(scenario: Scenario) -> Iterator[Finding]:
             if value is not None and number is not None and 0 < number < LEAST_TIME and number not in seen:
                 seen.add(number)
                 what = "`%s` is %d microseconds, less than a millisecond" % (member, number)
-                yield Finding("warning", value.start, value.end, what, ["It counts microseconds: %s." % example])
+                yield Finding("warning", value.start, value.end, what, ["It counts microseconds: %s." % TIMES[member]])
 
 
 def of_programs(scenario: Scenario, mode: str) -> Iterator[Finding]:

@@ -13,6 +13,8 @@ from .findings import Text
 from .json_places import Value
 
 SCHEMA = Path(__file__).resolve().parent / "scenario.schema.json"
+# the rules of a case by the kind of scenario, where they aren't those of `case`
+CASES = {"shared": "sharedCase", "rollout": "rolloutCase"}
 NAME = re.compile("[A-Za-z0-9_.-]{1,32}")
 STEP = re.compile(r"([a-z_]+)(?:\[([0-9]+)\])?(?:\.(.*))?", re.DOTALL)
 Pair = Tuple[Value, Value]
@@ -20,18 +22,25 @@ Pair = Tuple[Value, Value]
 
 class Rules:
     """What the schema says of members: what is allowed, by object and name. The objects are `whole`, `case`,
-    `rolloutCase` and `bottleneck`."""
+    `sharedCase`, `rolloutCase` and `bottleneck`."""
 
     def __init__(self) -> None:
         self.definitions = json.loads(SCHEMA.read_text(encoding="utf-8"))["definitions"]
 
     def members(self, of: str) -> Dict[str, Any]:
-        """The members of an object, with the rule of each."""
-        return {name: self._resolved(rule) for name, rule in self.definitions[of]["properties"].items()}
+        """The members of an object, with the rule of each; those of an object that it extends come first."""
+        found = {name: rule for base in self._bases(of) for name, rule in self.members(base).items()}
+        found.update((name, self._resolved(rule)) for name, rule in self.definitions[of]["properties"].items())
+        return found
 
     def needs(self, of: str, name: str) -> bool:
         """Whether an object can't be without a member."""
-        return name in self.definitions[of].get("required", ())
+        extended = any(self.needs(base, name) for base in self._bases(of))
+        return extended or name in self.definitions[of].get("required", ())
+
+    def _bases(self, of: str) -> List[str]:
+        """The objects that an object extends."""
+        return [base["$ref"].rsplit("/", 1)[1] for base in self.definitions[of].get("allOf", ())]
 
     def _resolved(self, rule: Dict[str, Any]) -> Dict[str, Any]:
         return self.definitions[rule["$ref"].rsplit("/", 1)[1]] if "$ref" in rule else rule
@@ -92,7 +101,7 @@ class Scenario:
 
     def case_kind(self, mode: str) -> str:
         """The name of the rules of a case in a mode."""
-        return "rolloutCase" if reads(mode) == "rollout" else "case"
+        return CASES.get(reads(mode), "case")
 
     def found(self, path: str) -> Tuple[Value, str, Value]:
         """The object that a path ends in, the name of its last step, and the value there. Where the last step's member
