@@ -87,6 +87,11 @@ def test_programs_on_the_link(program: Path, mode: str, draw: Random, trace: str
     assert programs.run(mode, made, program=program).output == OF_MODES[mode](made)
 
 
+OF_SHARED = {
+    "shared": reference.shared,
+    "shared-timeline": reference.shared_timeline,
+    "shared-acks": reference.shared_acks,
+}
 SHARED = strategies.fixed_dictionaries(
     {
         "trace": strategies.just("t"),
@@ -102,7 +107,8 @@ SHARED = strategies.fixed_dictionaries(
 @given(TRACES, strategies.lists(CASES, max_size=4), SHARED)
 def test_flows_over_one_bottleneck(program: Path, trace: str, cases: Any, shared: Any) -> None:
     made = {**scenario(trace, cases), "shared": shared}
-    assert programs.run("shared", made, program=program).output == reference.shared(made)
+    for mode, of in OF_SHARED.items():
+        assert programs.run(mode, made, program=program).output == of(made)
 
 
 @seed(20260103)
@@ -136,7 +142,8 @@ def test_examples(program: Path, name: str) -> None:
 def test_examples_of_shared(program: Path, name: str) -> None:
     made = json.loads((EXAMPLES / (name + ".json")).read_text(encoding="utf-8"))
     made["shared"]["rounds"] = 600
-    assert programs.run("shared", made, program=program).output == reference.shared(made)
+    for mode, of in OF_SHARED.items():
+        assert programs.run(mode, made, program=program).output == of(made)
 
 
 @pytest.mark.parametrize("path", sorted(EXAMPLES.glob("*.ccp")), ids=lambda path: path.stem)

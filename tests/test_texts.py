@@ -6,7 +6,7 @@ import re
 import pytest
 from support import EXAMPLES, REPOSITORY, script
 
-from ccp_tools import program, scenario_files, texts, traces
+from ccp_tools import frames, program, scenario_files, texts, traces
 from ccp_tools.errors import BadText, CcpError, Failed, NoProgram
 
 
@@ -117,6 +117,26 @@ def test_an_absent_primitive_is_zero():
     ack = texts.read_acks("flow 0 case=a agent=reno\nnow=5\n")[0].acks[0]
     assert ack["now"] == 5 and ack["bytes_acked"] == 0 and list(ack) == ["now"], str(ack)
     refused(KeyError, "other", lambda: ack["other"])
+
+
+LINK = "link rounds=3 sent=9 acked=1 lost=2 inflight=6\n"
+
+
+def test_texts_of_a_shared_link_end_with_it():
+    part = "flow 0 case=a agent=reno\nepoch 0 program=0 at=0 cwnd=4344\n"
+    end = "end acks=0 reports=0 held=0 faults=0 tail=0..0 stopped=no cwnd=4344 rate=0\n"
+    (flow,) = texts.read_flows(part + end + LINK)
+    assert flow.end.acks == 0 and texts.kind_of(part + end + LINK) == "live"
+    acks = "flow 0 case=a agent=reno\nnow=5\nflow 1 case=b agent=cubic\n"
+    assert [len(flow.acks) for flow in texts.read_acks(acks + LINK)] == [1, 0]
+    assert frames.read_acks(acks + LINK)["now"].tolist() == [5]
+    for text in (part + end, acks):
+        assert texts.read_link(text + LINK) == {"rounds": 3, "sent": 9, "acked": 1, "lost": 2, "inflight": 6}
+        refused(BadText, "no line `link`", lambda: texts.read_link(text))
+    assert texts.read_flows(LINK) == texts.read_acks(LINK) == [] and frames.read_acks(LINK).empty
+    refused(BadText, "nothing comes after", lambda: texts.read_flows(part + end + LINK + part + end))
+    refused(BadText, "nothing comes after", lambda: texts.read_acks(acks + LINK + acks))
+    refused(BadText, "nothing comes after", lambda: frames.read_acks(acks + LINK + acks))
 
 
 def test_bad_texts_are_refused_with_their_line():

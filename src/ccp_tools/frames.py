@@ -131,10 +131,11 @@ def heads_in(text: bytes) -> Iterator[Tuple[int, int]]:
 
 
 def part_of(line: int, head: bytes | None, body: bytes) -> Iterator[Tuple[int, bytes, bytes]]:
-    """A part with its line `flow`. Nothing but empty lines comes before the first one."""
+    """A part with its line `flow`. Nothing but empty lines comes before the first one; without flows the line `link` of
+    a text of `shared-acks` may stand alone."""
     if head is not None:
         yield line, head, body
-    elif body.strip(b"\r\n"):
+    elif without_link(body)[0].strip(b"\r\n"):
         blank = len(body) - len(body.lstrip(b"\r\n"))
         raise BadText("a line `flow` comes first", line + body.count(b"\n", 0, blank))
 

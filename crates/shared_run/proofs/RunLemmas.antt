@@ -10,7 +10,7 @@ use Rattle.shared_link.specs.SharedRounds.{counts_of}
 use Rattle.shared_link.specs.SharedStanding.{SharedState, Stands}
 use Rattle.shared_run.specs.RoundLetters.{closed_flow}
 use Rattle.shared_run.specs.SharedHistory.{Progress, round_limit, whole_run, flows_at_end, shared_counts}
-use Rattle.shared_run.specs.Courses.{run_after, flows_after, StandsAfter, HasEnded}
+use Rattle.shared_run.specs.Courses.{run_after, flows_after, HasEnded}
 use Rattle.shared_run.specs.RoundFlows.{HaveAllAcks}
 use Rattle.shared_run.proofs.BookLemmas.{AreStill, still-closed}
 use Rattle.shared_run.proofs.CourseLemmas.{ends}
@@ -28,16 +28,13 @@ module _ (link : SharedCase) (cases : List Case) (most rounds : ℕ) (state : Sh
   pub flows-are : map (closed_flow over_codes) (flows_after link cases rounds) ≡ flows_at_end link over_codes cases most
   flows-are = ap (λ (run : Progress). map (closed_flow over_codes) run.flows) whole
 
-  pub counts-are : (counts : Counts) → counts ≡ counts_of link (run_after link over_codes cases rounds).history → counts ≡ shared_counts link over_codes cases most
-  counts-are counts are = are ∙ ap (λ (run : Progress). counts_of link run.history) whole
-
--- the counts of a link that stands as the run does
-pub counts-after : (link : SharedCase) (cases : List Case) (rounds : ℕ) (state : SharedState) (counts : Counts) → StandsAfter link cases rounds state
-    → ((history : List (List Ask)) → Stands state history → counts ≡ counts_of state.case history)
-    → counts ≡ counts_of link (run_after link over_codes cases rounds).history
-counts-after link cases rounds state counts after tells =
-    let history = (run_after link over_codes cases rounds).history in
-    tells history after.stands ∙ ap (λ (case : SharedCase). counts_of case history) after.case
+  pub counts-are : (counts : Counts) → ((history : List (List Ask)) → Stands state history → counts ≡ counts_of state.case history)
+      → counts ≡ shared_counts link over_codes cases most
+  counts-are counts tells =
+      let history = (run_after link over_codes cases rounds).history in
+      tells history ended.stands.stands
+      ∙ ap (λ (case : SharedCase). counts_of case history) ended.stands.case
+      ∙ ap (λ (run : Progress). counts_of link run.history) whole
 
 -- at the end the words of the flows have all acknowledgements
 pub run-whole : (link : SharedCase) (cases : List Case) (most : ℕ) → HaveAllAcks (flows_at_end link over_codes cases most)

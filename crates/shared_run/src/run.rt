@@ -4,10 +4,8 @@ ghost use Rattle.ccp_base.specs.Limits.{most_flows, most_rounds};
 ghost use Rattle.flow_core.specs.Readings.{over_codes};
 ghost use Rattle.scene_core.specs.CasePlans.{plan_of, AreFlowsFrom, flow_link_of, link_at_once};
 ghost use Rattle.shared_link.specs.SharedLimits.{IsWithin};
-ghost use Rattle.shared_link.specs.SharedRounds.{counts_of};
-ghost use Rattle.shared_run.specs.RoundLetters.{closed_flow};
 ghost use Rattle.shared_run.specs.SharedHistory.{flows_at_end, round_limit, shared_rows, shared_counts};
-ghost use Rattle.shared_run.specs.Courses.{run_after, flows_after, StandsAfter, EndsInTime};
+ghost use Rattle.shared_run.specs.Courses.{StandsAfter, EndsInTime};
 ghost use Rattle.shared_run.specs.RoundFlows.{kept_at};
 ghost use Rattle.shared_run.specs.WholeRun.{IsRunOf};
 ghost use Rattle.shared_run.specs.LiftedRun.{RunHoldsForSources};
@@ -18,7 +16,7 @@ use crate::flow::SharedFlow;
 use crate::flows::{close_flows, open_flows};
 use crate::line::Bell;
 use crate::round_flow::RoundFlow;
-use crate::rounds::{RunEnd, run_by_workers};
+use crate::rounds::run_by_workers;
 use crate::run_flow::LockedRunFlow;
 use campaign_core::Cases;
 use ccp_base::{Gate, NoMemory, Workers};
@@ -174,7 +172,9 @@ fn run_course<
         bells.as_slice(),
         gate,
     )?;
-    close_run(alloc, end, flows)
+    let counts = end.link.counts();
+    let flows = close_flows(alloc, flows, end.rounds)?;
+    Ok(ClosedRun { flows, counts })
 }
 
 // A function of its own: each of its exits drops little, and its caller has one exit for all of them.
@@ -197,25 +197,6 @@ fn open_run<C: Course, F: RoundFlow>(
     let flows = open_flows::<C, F>(alloc, cases)?;
     let bells = make_bells(alloc, workers)?;
     Ok(OpenRun { link, flows, bells })
-}
-
-/// The run at its end, whose flows take and answer until nothing is left.
-fn close_run<C: Course, F: RoundFlow>(
-    alloc: Global,
-    end: RunEnd,
-    flows: Vec<LockedRunFlow<C, F>>,
-) -> Result<ClosedRun<F>, NoMemory>
-    requires stands { StandsAfter C.link C.cases end.rounds end.link }
-    requires flows { length flows.items ≡ length C.cases }
-    requires few { length C.cases ≤ most_flows }
-    ensures flows { IfOk result (λ run. map (λ shared. (shared.flow, shared.tally)) run.flows.items
-        ≡ map (kept_at F.at) (map (closed_flow over_codes) (flows_after C.link C.cases end.rounds))) }
-    ensures counts { IfOk result (λ run. run.counts
-        ≡ counts_of C.link (run_after C.link over_codes C.cases end.rounds).history) }
-{
-    let counts = end.link.counts();
-    let flows = close_flows(alloc, flows, end.rounds)?;
-    Ok(ClosedRun { flows, counts })
 }
 
 /// A bell for each worker of a run.
