@@ -233,7 +233,8 @@ class Grid:
     """What a scenario is made of; the defaults are those of the options. Times are in microseconds but for `cut_ms`.
 
     `traces` are pairs of a name (or None, then by the file) and a file. `seconds_us` is the length in place of `acks`.
-    `shared` is the bottleneck of all flows, as the member of a scenario, and `steps` are those of a rollout."""
+    `shared` is the bottleneck of all flows, as the member of a scenario, and `start_us` says when they start, as
+    starts_of reads it; `steps` are those of a rollout."""
 
     traces: List[Tuple[str | None, str]]
     senders: List[Sender] = field(default_factory=lambda: [sender(name) for name in AGENTS])
@@ -254,6 +255,7 @@ class Grid:
     shared: Dict[str, Any] | None = None
     steps: List[Steps] | None = None
     cwnd: List[int] | None = None
+    start_us: List[int] | None = None
     is_quiet: bool = False
 
     def scenario(self) -> Scenario:
@@ -269,6 +271,9 @@ class Grid:
         if self.shared:
             made["shared"] = with_length(self, traces, len(points))
         made["cases"] = self.cases(traces, points)
+        if self.start_us:
+            for case, start_us in zip(made["cases"], starts_of(self.start_us, len(points))):
+                case["start_us"] = start_us
         return made
 
     def read_traces(self) -> Dict[str, List[int]]:
@@ -363,6 +368,17 @@ class Grid:
         beside.update(rate=point.loss.rate, seed=point.seed)
         made.update({key: value for key, value in beside.items() if value is not None})
         return made
+
+
+def starts_of(given: Sequence[int], flows: int) -> List[int]:
+    """When each flow starts, in microseconds: a value for each in order, or one, the time from a start to the next."""
+    starts = [number * given[0] for number in range(flows)] if len(given) == 1 else list(given)
+    if len(starts) != flows:
+        text = "--start: %d values for %d flows: one for each in order, or one alone, the time between starts"
+        raise CcpError(text % (len(starts), flows))
+    if max(starts, default=0) > LIMITS["start_us"]:
+        raise CcpError("--start: the last of %d flows would start after %d s" % (flows, LIMITS["start_us"] // 10**6))
+    return starts
 
 
 def with_length(grid: Grid, traces: Dict[str, List[int]], flows: int) -> Dict[str, Any]:
@@ -494,6 +510,8 @@ def add_arguments(parser: argparse.ArgumentParser) -> None:
     add("--for", dest="mode", choices=CASES, default="campaign", help=what)
     form = "TRACE:QUEUE:QUANTUM-MS[:ROUNDS]"
     add("--shared", type=shared, metavar=form, help="the bottleneck of all flows, for the mode shared")
+    what = "seconds at which the flows of --shared start, as 0,5,10; or one, the time between their starts (all at 0)"
+    add("--start", type=list_of(start), metavar="S", help=what)
     add("--whole", action="store_true", help="no limits of one run: for `ccp over`")
     what = "the numbers of cases, bytes and acknowledgements in place of the scenario"
     add("--dry-run", action="store_true", help=what)
@@ -505,6 +523,7 @@ def add_arguments(parser: argparse.ArgumentParser) -> None:
 MEMBERS = {
     "delay_ms": "delay_us",
     "seconds": "seconds_us",
+    "start": "start_us",
     "timeout_ms": "timeout_us",
     "cut": "cut_ms",
     "quiet": "is_quiet",
@@ -536,6 +555,8 @@ def check_mode(grid: Grid, arguments: argparse.Namespace) -> None:
         raise UsageError("--steps and --cwnd are of --for rollout")
     if (kind == "shared") != bool(grid.shared):
         raise UsageError("--for shared and --shared TRACE:QUEUE:QUANTUM-MS[:ROUNDS] go together")
+    if grid.start_us and not grid.shared:
+        raise UsageError("--start is of flows on one link: it needs --shared")
     if getattr(arguments, "whole", False) and grid.mode not in SPLIT:
         raise UsageError("--whole is of --for campaign, timeline and acks: a run of %s can't be split" % grid.mode)
 
