@@ -1,8 +1,8 @@
 """What flows get of one link over time, against values worked out by hand from the texts of a run of two flows.
 
-The link has a chance each millisecond, from 1 ms on, and the run ends at 55 ms. Flow a has 3 acknowledgements from 10 to
-20 ms, 5 to 30 ms, 1 to 40 ms and 5 to 50 ms, the last at 47 ms. Flow b starts at 20 ms and has 3 to 30 ms, 2 to 40 ms,
-3 to 50 ms, and the last at 51 ms."""
+The link has a chance each millisecond, from 1 ms on, and the run ends at 55 ms. Flow a has 3 acknowledgements from 10
+to 20 ms, 5 to 30 ms, 1 to 40 ms and 5 to 50 ms, the last at 47 ms. Flow b starts at 20 ms and has 3 to 30 ms, 2 to
+40 ms, 3 to 50 ms, and the last at 51 ms."""
 from __future__ import annotations
 
 import json
@@ -65,7 +65,8 @@ def test_flows(run):
 
 
 def test_a_flow_without_acknowledgements():
-    text = ACKS[: ACKS.index("flow 1")] + "flow 1 case=b agent=cubic\nlink rounds=20 sent=21 acked=14 lost=0 inflight=7\n"
+    end = "flow 1 case=b agent=cubic\nlink rounds=20 sent=21 acked=14 lost=0 inflight=7\n"
+    text = ACKS[: ACKS.index("flow 1")] + end
     acks = frames.read_acks(text)
     flows = shares.flows_of(acks, SCENARIO, 100_000)
     assert list(flows["end_us"]) == [47_000, 100_000] and len(shares.flows_seen(acks)) == 2
@@ -188,7 +189,7 @@ def test_a_window_of_time(files):
 
 
 def test_the_fair_share_of_a_flow(files):
-    """In windows of 5 ms, b gets 3, 0, 2, 2, 2 and 1 packets from 25 ms on."""
+    """It takes three windows one after another, and the run has two of 20 ms."""
     first, second = figures_of(files, files["acks"], "--window-ms", "20")
     assert first["fair_after_s"] is None and second["fair_after_s"] is None
 

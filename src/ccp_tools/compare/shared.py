@@ -71,8 +71,8 @@ def over_time(scenario: Scenario, path: Path) -> Tuple[List[float], np.ndarray, 
 
 
 def steps_us(shared: Mapping[str, Any], rounds: int) -> np.ndarray:
-    """The ends of STEPS equal parts of the rounds that a run may have, in microseconds, up to those that it had; 0 comes
-    first."""
+    """The ends of STEPS equal parts of the rounds that a run may have, up to those that it had, in microseconds; 0
+    comes first."""
     ends = [max(1, shared["rounds"] * step // STEPS) for step in range(1, STEPS + 1)]
     return np.unique([0, *(min(end, rounds) for end in ends)]).astype(np.int64) * shared["quantum_us"]
 
