@@ -1,7 +1,7 @@
 """The commands of the pages for users that have no output below them: each of them ends well.
 
-tools/check-docs runs those with `$`, and compares what they print. A block whose commands need what the repository hasn't
-got, as a cluster, has a line `<!-- not run: REASON -->` above it."""
+tools/check-docs runs those with `$`, and compares what they print. A block whose commands need what the repository
+hasn't got, as a cluster, has a line `<!-- not run: REASON -->` above it."""
 from __future__ import annotations
 
 import re

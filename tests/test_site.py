@@ -50,7 +50,7 @@ class Page(HTMLParser):
 
 @needs("mkdocs")
 def test_the_site_is_built_and_each_link_leads_somewhere(tmp_path: Path) -> None:
-    """Of each page: the file of a link is there, and so is the heading that it names. Nothing is loaded from a network."""
+    """Of each page: the file of a link is there, and so is the heading that it names. Nothing comes from a network."""
     made = ran(["mkdocs", "build", "--strict", "--quiet", "--site-dir", tmp_path], cwd=REPOSITORY)
     assert (made.status, made.output) == (0, ""), made.errors
     # the page of a wrong address has links from the top of a server

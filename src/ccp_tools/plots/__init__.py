@@ -6,6 +6,7 @@
     ccp plot delay --scenario SCENARIO [--flows 0,2] ACKS FILE..
     ccp plot cdf [--scenario SCENARIO] [--flows 0,2] ACKS FILE..
     ccp plot table [--scenario SCENARIO] [--timeline TIMELINE] TABLE FILE..
+    ccp plot shares [--scenario SCENARIO] [--window-ms W] ACKS FILE..
     ccp plot shares [--steps 50] SCENARIO FILE..
 
 `bars` and `scatter` plot what `ccp metrics` writes as JSON or CSV. Over seeds bars are means with 95 % intervals, and
@@ -17,8 +18,10 @@ a decade, and two strokes mark an axis that doesn't begin at 0.
 marks where packets were lost, where there was a timeout, and where the agent changed the program. With the
 acknowledgements its values are means of windows of time, else those of the reports. A line breaks where reports were
 held, and in a gap of the trace. `delay` shows the round-trip time of each packet over time beside its distribution,
-`cdf` the distributions alone, and `table` throughput, loss and queueing delay of a table. `shares` runs `ccp shared`
-and shows each flow's share of the bottleneck over time and Jain's index.
+`cdf` the distributions alone, and `table` throughput, loss and queueing delay of a table. `shares` shows what each flow
+of a shared link got over time, its share, Jain's index over the flows that have started and not ended, and how long the
+packets waited in the queue, from a text of `shared-acks`; its scenario gives the queue, the link's capacity and when
+flows start. Of a scenario alone it runs `ccp shared` once for each step, and shows the shares and Jain's index.
 
 --size column (252 points wide) and --size page (516) are for papers, with small text; WxH is in points, 72 to an inch.
 A file has at most 8 senders and 32 bars; what doesn't fit comes on further pages: of a PDF in the same file, else in
@@ -27,11 +30,12 @@ files with a number, which are named on standard error."""
 from .command import add_arguments, add_look, look_of, run
 from .over_time import flows
 from .packets import cdf, delay, named_flows
-from .pages import KINDS, MOST_SENDERS, Look, drawn, save
+from .pages import FONT, KINDS, MOST_SENDERS, Look, drawn, save
 from .points import bars, check_metrics, overall, points_of, said_of, scatter
-from .shared_link import shared_runs, shared_tables, shares
+from .shared_link import link_page, shared_runs, shared_tables, shares, shares_of_acks
 
 __all__ = [
+    "FONT",
     "KINDS",
     "MOST_SENDERS",
     "Look",
@@ -43,6 +47,7 @@ __all__ = [
     "delay",
     "drawn",
     "flows",
+    "link_page",
     "look_of",
     "named_flows",
     "overall",
@@ -54,4 +59,5 @@ __all__ = [
     "shared_runs",
     "shared_tables",
     "shares",
+    "shares_of_acks",
 ]

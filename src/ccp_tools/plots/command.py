@@ -17,7 +17,7 @@ from ..errors import CcpError
 from ..files import name_of, read_text
 from ..frames import AckFrame, Timeline, acks_in, read_timeline
 from ..metrics import SHOWN
-from ..scenario_files import read_scenario
+from ..scenario_files import read_scenario, scenario_of
 from . import over_time, packets, pages, points, shared_link
 from .pages import FONT, MOST_SENDERS, SIZES, Look
 from .series import column
@@ -100,8 +100,11 @@ def add_arguments(parser: argparse.ArgumentParser) -> None:
     add = kind("table", what, "what `campaign` or `shared` printed", "TABLE")
     add("--scenario", metavar="SCENARIO", help=SCENARIO)
     add("--timeline", metavar="TIMELINE", help="what `timeline` printed of it, for the queueing delay")
-    add = kind("shares", "each flow's share of a bottleneck over time", "a scenario of `shared`", "SCENARIO")
-    what = "points of time, for each of which `shared` is run (50)"
+    text = "what `shared-acks` printed, or a scenario of `shared`, which is run"
+    add = kind("shares", "each flow's share of a bottleneck over time", text, "ACKS")
+    add("--scenario", metavar="SCENARIO", help="its scenario, for the link's capacity and the queue")
+    add("--window-ms", type=whole(1, 10**6), metavar="W", help=metrics.WINDOW_HELP)
+    what = "of a scenario: points of time, for each of which `shared` is run (50)"
     add("--steps", type=whole(2, 1000), default=50, metavar="N", help=what)
 
 
@@ -244,16 +247,30 @@ def split_name(row: Mapping[str, Any]) -> Tuple[str, str] | None:
 
 
 def pages_of_shares(arguments: argparse.Namespace) -> List[Figure]:
-    scenario = read_scenario(arguments.text)
+    text, look = read_text(arguments.text), look_of(arguments)
+    if not text.startswith("flow "):
+        return [shares_of_scenario(scenario_of(text, name_of(arguments.text)), arguments, look)]
+    scenario = read_scenario(arguments.scenario) if arguments.scenario else None
+    if scenario is None and not arguments.quiet:
+        note("--scenario gives the link's capacity and the queue")
+    try:
+        return [shared_link.shares_of_acks(text, scenario, arguments.window_ms and 1000 * arguments.window_ms, look)]
+    except CcpError as error:
+        raise CcpError("%s: %s" % (name_of(arguments.text), error)) from None
+
+
+def shares_of_scenario(scenario: Mapping[str, Any], arguments: argparse.Namespace, look: Look) -> Figure:
+    """The shares of a scenario, for which the program is run."""
     shared = scenario.get("shared")
     if not isinstance(shared, dict) or not isinstance(shared.get("rounds"), int):
-        text = "%s: it has no member shared with rounds: this is no scenario of `shared`"
-        raise CcpError(text % name_of(arguments.text))
+        raise CcpError(
+            "%s: it has no member shared with rounds: this is no scenario of `shared`" % name_of(arguments.text)
+        )
     names = [case["name"] for case in scenario["cases"]]
     if len(names) > MOST_SENDERS:
         raise CcpError("%d flows: a plot of shares has at most %d" % (len(names), MOST_SENDERS))
     times, acked = shared_link.shared_runs(scenario, arguments.steps, arguments.ccp)
-    return [shared_link.shares(names, times, acked, look_of(arguments))]
+    return shared_link.shares(names, times, acked, look)
 
 
 PAGES: Dict[str, Callable[[argparse.Namespace], List[Figure]]] = {

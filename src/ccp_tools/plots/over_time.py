@@ -3,7 +3,7 @@
 from __future__ import annotations
 
 import math
-from typing import List, Mapping, Sequence, Any
+from typing import Any, List, Mapping, Sequence
 
 import numpy as np
 from matplotlib.axes import Axes
@@ -12,10 +12,11 @@ from matplotlib.figure import Figure
 from .. import metrics
 from ..frames import AckFrame, Timeline
 from ..metrics import Link
+from ..shares import window_us
 from . import pages
 from .packets import known_case
 from .pages import MOST_SENDERS, Look, chunks, line_look
-from .series import Line, Series, series_of, window_us
+from .series import Line, Series, series_of
 
 LABELS = {"throughput": "throughput [Mbit/s]", "window": "window [segments]", "trip": "round-trip time [ms]"}
 MARKS = ("loss", "mark", "timeout", "change", "fault")
@@ -112,4 +113,3 @@ def draw_marks(panel: Axes, found: List[Series], rows: List[str]) -> None:
             panel.vlines(times, *ends, color=line_look(at)["color"], linewidth=1.3)
     panel.grid(False)
     panel.set(yticks=range(len(rows)), yticklabels=rows[::-1], ylim=(-0.6, len(rows) - 0.4))
-

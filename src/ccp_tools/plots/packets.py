@@ -3,7 +3,7 @@
 from __future__ import annotations
 
 from dataclasses import dataclass
-from typing import Any, Iterable, Iterator, List, Mapping, Sequence, Tuple
+from typing import Any, Dict, Iterable, Iterator, List, Mapping, Sequence, Tuple
 
 import numpy as np
 from matplotlib.axes import Axes
@@ -88,7 +88,7 @@ def delay(flows: Sequence[Named], look: Look = Look(), until_s: float | None = N
     """The pages of the round-trip time of each packet over time, with the distribution beside it: a row a group."""
     made = []
     for senders, groups, inside in parts_of(flows, 4):
-        shape = dict(gap=2.2, apart=1.4, has_titles=True, widths=(3, 1), sharey="row")
+        shape: Dict[str, Any] = dict(gap=2.2, apart=1.4, has_titles=True, widths=(3, 1), sharey="row")
         figure, panels = pages.page(look, pages.line_keys(senders), [9.5] * len(groups), 2, **shape)
         for over, beside, group in zip(panels[::2], panels[1::2], groups):
             delay_row(over, beside, [one for one in inside if one.group == group], senders, until_s)

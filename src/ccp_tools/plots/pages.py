@@ -137,7 +137,11 @@ def page(
         text = "%gx%g points are too small for the panels and the legend: a greater --size is needed"
         raise CcpError(text % (width, height))
     figure = Figure(figsize=(width / 72, height / 72))
-    grid = {"left": 5.4 * points / width, "right": 1 - 1.2 * points / width, "wspace": apart * points / wide}
+    grid: Dict[str, Any] = {
+        "left": 5.4 * points / width,
+        "right": 1 - 1.2 * points / width,
+        "wspace": apart * points / wide,
+    }
     grid.update(top=1 - above * line / height, bottom=below * line / height, hspace=gap * line / tall)
     ratios = {"height_ratios": heights, "width_ratios": widths or [1] * columns}
     panels = figure.subplots(rows, columns, squeeze=False, gridspec_kw={**grid, **ratios}, **shared).ravel().tolist()

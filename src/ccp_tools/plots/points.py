@@ -5,6 +5,7 @@ from __future__ import annotations
 import re
 import textwrap
 from dataclasses import dataclass
+from functools import partial
 from typing import Any, Dict, Iterable, List, Mapping, Sequence
 
 import numpy as np
@@ -124,8 +125,8 @@ def bar_page(frame: pd.DataFrame, senders: List[str], names: Sequence[str], look
     frame = frame.assign(place=numbers, number=frame["sender"].map(senders.index)).sort_values(["place", "number"])
     frame["at"] = np.arange(len(frame)) + 0.5 + gap * frame["place"]
     frame["capacity"] = capacity_of(frame)
-    fill = dict(width=max(1, int(look.letters / len(groups))), break_long_words=False)
-    labels = ["\n".join(textwrap.fill(line, **fill) for line in group.split("\n")) for group in groups]
+    wrapped = partial(textwrap.fill, width=max(1, int(look.letters / len(groups))), break_long_words=False)
+    labels = ["\n".join(map(wrapped, group.split("\n"))) for group in groups]
     legend: Dict[str, Any] = {name: Patch(**bar_look(number), linewidth=1) for number, name in enumerate(senders)}
     if "throughput_mbps" in names and frame["capacity"].any():
         legend["link"] = pages.link_key()
@@ -252,7 +253,7 @@ def scatter_axes(panel: Axes, across: np.ndarray, upwards: np.ndarray, x: str, y
 def overall(frame: pd.DataFrame, look: Look = Look()) -> List[Figure]:
     """One scatter over all traces, of figures that are comparable between them: utilization over the 95th percentile
     of the queueing delay, the mean of each sender with an ellipse of one standard deviation over the traces."""
-    names = ["queueing_p95_ms", "utilization"]
-    over = frame.groupby(["sender", "trace"], sort=False)[names].mean().reset_index()
+    names = ("queueing_p95_ms", "utilization")
+    over = frame.groupby(["sender", "trace"], sort=False)[list(names)].mean().reset_index()
     cases = over.assign(group="mean over %d traces" % over["trace"].nunique(), sender=over["sender"].astype(str))
-    return scatter(Points(metrics.groups(cases, ["group", "sender"], names), cases), *names, look=look)
+    return scatter(Points(metrics.groups(cases, ["group", "sender"], names), cases), *names, look)

@@ -3,7 +3,7 @@
 from __future__ import annotations
 
 from dataclasses import dataclass
-from typing import Any, Dict, Mapping, Tuple
+from typing import Any, Dict, Tuple
 
 import numpy as np
 import pandas as pd
@@ -26,12 +26,6 @@ class Series:
     lines: Dict[str, Line]
     marks: Dict[str, np.ndarray]
     end: float
-
-
-def window_us(end_us: float) -> int:
-    """The length of the windows of time, 1, 2 or 5 times a power of ten milliseconds: 100 to 250 of them."""
-    lengths = (factor * 1000 * 10**power for power in range(12) for factor in (1, 2, 5))
-    return next(length for length in lengths if end_us / length <= 250)
 
 
 def steps(edges: np.ndarray, values: np.ndarray) -> Line:
@@ -103,7 +97,8 @@ def series_of(timeline: Timeline, case: Any, number: int, name: str, acks: AckFr
     times = acks.frame["now"].to_numpy() / 1e6 if acks else np.zeros(0)
     lines = {"window": window_line(reports, first, unit, times)}
     if acks is None:
-        return Series(name, mss, *of_reports(reports, lines), float(max(reports["now"], default=0) / 1e6))
+        lines, marks = of_reports(reports, lines)
+        return Series(name, mss, lines, marks, float(max(reports["now"], default=0) / 1e6))
     faults = timeline.faults[timeline.faults["flow"] == number]["ack"].to_numpy(dtype=int)
     answered = reports["answered"].to_numpy()[is_change(reports)].astype(int)
     marks = {kind: times[acks.frame[of].to_numpy() > 0] for kind, of in ACK_MARKS.items()}
@@ -121,7 +116,7 @@ def series_of(timeline: Timeline, case: Any, number: int, name: str, acks: AckFr
     return Series(name, mss, lines, marks, end)
 
 
-def of_reports(reports: pd.DataFrame, lines: Dict[str, Line]) -> Tuple[Dict[str, Line], Mapping[str, Any]]:
+def of_reports(reports: pd.DataFrame, lines: Dict[str, Line]) -> Tuple[Dict[str, Line], Dict[str, np.ndarray]]:
     """The lines and marks of reports. A throughput is that of a report's span; of a report after held ones it isn't
     known when its span began."""
     now, breaks = reports["now"].to_numpy(dtype=float), breaks_in(reports)
