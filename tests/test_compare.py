@@ -11,7 +11,7 @@ from pathlib import Path
 from types import SimpleNamespace
 
 import pytest
-from support import EXAMPLES, TRACES, command, needs, ran, require, script
+from support import EXAMPLES, REPOSITORY, TRACES, command, needs, ran, require, script
 
 pytestmark = needs("import matplotlib", "import pandas", "import jinja2")
 require("matplotlib")
@@ -19,7 +19,6 @@ require("matplotlib")
 from ccp_tools.compare import cases, shared  # noqa: E402
 from ccp_tools.compare import command as compare  # noqa: E402
 from ccp_tools.compare.cases import Comparison  # noqa: E402
-from ccp_tools.frames import acks_in  # noqa: E402
 from ccp_tools.queues import Queue  # noqa: E402
 from ccp_tools.traces import Trace, read_trace  # noqa: E402
 
@@ -169,7 +168,7 @@ def test_doubts_are_seen_and_never_bold(compared):
         assert is_marked == cells[1].startswith("faulty") and not (is_marked and is_bold), cells
     assert any(is_bold for _, _, is_bold in rows_of_page(page))
     assert "case fixed-faulty: " in (compared / "errors").read_text() and "faults of its program" in page
-    warning = "faulty.portus:2:42: `least` begins as `+infinity`: a sum of it is a fault (`Overflow`)"
+    warning = "faulty.portus:2:44: `least` begins as `+infinity`: a sum of it is a fault (`Overflow`)"
     assert warning in (compared / "errors").read_text() and warning in html.unescape(page).partition('id="results"')[0]
     assert "! faulty on fixed: " in (compared / "printed").read_text()
     assert page.index("Before you read the figures") < page.index('id="results"') < page.index('<table id="figures">')
@@ -359,36 +358,22 @@ def test_when_flows_converge():
     assert converged([0, 1, 2, 3], acked[:4]) is None
 
 
-# the scenario of two flows over one link, of which the second one begins later, and what `shared-acks` prints of it
+# the scenario of two flows over one link
 JOINED = {
     "version": 1,
     "traces": {"t": "1\n"},
     "shared": {"trace": "t", "queue": 8, "quantum_us": 5000, "rounds": 20},
     "cases": [{"name": name, "trace": "t"} for name in "ab"],
 }
-JOINED_ACKS = """flow 0 case=a agent=reno
-bytes_acked=1448 packets_acked=1 now=11000 bytes_in_flight=2896 packets_in_flight=2 rtt_sample_us=11000
-bytes_acked=1448 packets_acked=1 now=12000 bytes_in_flight=1448 packets_in_flight=1 rtt_sample_us=12000
-bytes_acked=1448 packets_acked=1 now=25000 bytes_in_flight=7240 packets_in_flight=5 rtt_sample_us=10000
-flow 1 case=b agent=cubic
-bytes_acked=1448 packets_acked=1 now=26000 bytes_in_flight=2896 packets_in_flight=2 rtt_sample_us=6000
-bytes_acked=1448 packets_acked=1 lost_pkts_sample=1 now=37000 packets_in_flight=4 rtt_sample_us=7000
-"""
-
-
-def test_the_series_of_acknowledgements():
-    """By hand: a round ends before the time of the next one."""
-    series = shared.series_of_acks(acks_in(JOINED_ACKS), [0, 0.01, 0.02, 0.025, 0.03, 0.05])
-    assert series.acked.tolist() == [[0, 0], [0, 0], [2896, 0], [2896, 0], [4344, 1448], [4344, 2896]]
-    assert series.lost.tolist() == [0, 0, 0, 0, 0, 1] and series.inflight.tolist() == [0, 0, 1, 1, 7, 9]
 
 
 def test_a_program_with_the_acknowledgements_of_a_shared_link(tmp_path):
     """Where the program has the mode, one run gives the series."""
-    (tmp_path / "acks").write_text(JOINED_ACKS + "link rounds=11 sent=41 acked=23 lost=2 inflight=16\n")
-    path = script(tmp_path, "ccp", '[ "$1" = shared-acks ] || exit 2\ncat %s\n' % (tmp_path / "acks"))
-    series = shared.series_of(JOINED, path)
-    assert series.times == [at * 5 / 1000 for at in range(12)] and series.acked[-1].tolist() == [4344, 2896]
+    data = REPOSITORY / "tests" / "data"
+    path = script(tmp_path, "ccp", '[ "$1" = shared-acks ] || exit 2\ncat %s\n' % (data / "two-flows.acks"))
+    series = shared.series_of(json.loads((data / "two-flows.json").read_text()), path)
+    assert series.times == [at * 5 / 1000 for at in range(12)] and series.acked[-1].tolist() == [20272, 13032]
+    assert series.lost[-1] == 2 and len(series.queue) == 11
 
 
 def test_a_flow_that_ends_before_the_run():
@@ -407,9 +392,10 @@ def test_senders_together(program, tmp_path):
     assert made.status == 0, made.errors
     shared = json.loads((tmp_path / "out" / "shared.json").read_text())["shared"][0]
     assert shared["senders"] == ["reno", "cubic"] and len(shared["times_s"]) == len(shared["acked_bytes"]) > 20
-    assert len(shared["lost_packets"]) == len(shared["packets_in_flight"]) == len(shared["times_s"])
+    assert len(shared["lost_packets"]) == len(shared["times_s"])
+    assert shared["queue_ms"] is None or len(shared["queue_ms"]) == len(shared["times_s"]) - 1
     page = (tmp_path / "out" / "report.html").read_text()
-    assert "Sharing one link" in page and (tmp_path / "out" / "shared-fixed.pdf").exists()
+    assert "Sharing one link" in page and (tmp_path / "out" / "shared-fixed.svg").exists()
     table = (tmp_path / "out" / "shared-fixed.txt").read_text()
     for number, name in enumerate(shared["senders"]):
         row = next(line.split(" ") for line in table.split("\n") if line.startswith("fixed-%s " % name))

@@ -19,7 +19,7 @@ ARGUMENTS = {
     "scenario": [["FILE"], ["--senders", "mine=FILE", str(EXAMPLES / "traces" / "fixed.trace")]],
     "trace": [["info", "FILE"]],
     "metrics": [["FILE", "FILE"]],
-    "plot": [["table", "FILE", "--out", "OUT/x.svg"]],
+    "plot": [[kind, "FILE", "OUT/x.svg"] for kind in ("table", "bars", "flows", "cdf", "shares")],
     "explain": [["FILE"], ["--for", "campaign", "FILE"]],
     "table": [["FILE"]],
     "verify": [["FILE", "FILE"], [str(EXAMPLES / "live.json"), "FILE"]],

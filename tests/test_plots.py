@@ -15,6 +15,8 @@ pd = require("pandas")
 
 from ccp_tools import plots  # noqa: E402
 from ccp_tools.errors import CcpError  # noqa: E402
+from ccp_tools.plots import series  # noqa: E402
+from ccp_tools.plots.points import spread_of  # noqa: E402
 
 CASE = {"trace": "t", "mss": 1000, "queue": 10, "delay_us": 20000, "timeout_us": 1000000}
 SCENARIO = {
@@ -125,12 +127,15 @@ def test_groups_over_seeds():
         for seed in (1, 2, 3)
     ]
     points = plots.points_of(pd.DataFrame(rows))
-    assert [(point.group, point.sender) for point in points[:2]] == [("near", "reno"), ("near", "cubic")]
-    mean, half, deviation = points[0].values["throughput_mbps"]
+    assert points.frame[["group", "sender"]].to_numpy().tolist()[:2] == [["near", "reno"], ["near", "cubic"]]
+    mean, half, deviation = points.frame.iloc[0][["throughput_mbps_" + kind for kind in ("mean", "ci95", "sd")]]
     assert (mean, deviation) == (12, 1) and half == pytest.approx(4.30265 / 3**0.5, rel=1e-4)
-    assert plots.ellipse_of(points[0], "queueing_p95_ms", "throughput_mbps") is not None
+    names = ("queueing_p95_ms", "throughput_mbps")
+    assert spread_of(points, points.frame.iloc[0], names).tolist() == [[0, 0], [0, 1]]
     single = plots.points_of(pd.DataFrame(METRICS["cases"]))
-    assert single[0].values["throughput_mbps"] == (10, None, None)
+    first = single.frame.iloc[0]
+    assert first["throughput_mbps_mean"] == 10 and pd.isna(first["throughput_mbps_ci95"])
+    assert not spread_of(single, first, names).any()
 
 
 def test_axes_of_a_scatter():
@@ -162,10 +167,10 @@ def test_a_line_breaks_where_reports_were_held_and_in_a_gap():
     from ccp_tools import frames
 
     reports = frames.read_timeline(FLOWS).reports
-    assert list(plots.breaks_in(reports[reports["flow"] == 0])) == [False, False, False, True]
+    assert list(series.breaks_in(reports[reports["flow"] == 0])) == [False, False, False, True]
     held = reports[reports["flow"] == 0].copy()
     held.loc[held.index[1], "first"] = 3
-    assert list(plots.breaks_in(held))[1]
+    assert list(series.breaks_in(held))[1]
 
 
 @pytest.mark.parametrize(
@@ -203,11 +208,11 @@ def test_no_step_reaches_over_a_break():
     """The value before a break ends at its own time, in the line of windows and in that of round-trip times."""
     import numpy as np
 
-    times, values = plots.with_breaks(np.array([1.0, 2.0, 9.0]), np.array([5, 6, 7]), np.array([False, False, True]))
+    times, values = series.with_breaks(np.array([1.0, 2.0, 9.0]), np.array([5, 6, 7]), np.array([False, False, True]))
     assert list(times) == [1, 2, 2, 9] and list(values[:2]) == [5, 6] and np.isnan(values[2]) and values[3] == 7
     from ccp_tools import frames
 
     reports = frames.read_timeline(FLOWS).reports
-    times, values = plots.window_line(reports[reports["flow"] == 0], 4000, 1000, np.zeros(0))
+    times, values = series.window_line(reports[reports["flow"] == 0], 4000, 1000, np.zeros(0))
     place = int(np.flatnonzero(np.isnan(values))[0])
     assert times[place] == times[place - 1] == 0.1 and times[place + 1] == 0.6

@@ -317,6 +317,17 @@ def test_a_rollout(tmp_path):
     refused(1, "no --portus", "--for", "rollout", *programs, "--steps", "slow+other", TRACES[0])
 
 
+def test_flows_that_start_later():
+    words = ["--for", "shared-acks", "--senders", "reno,cubic,reno", "--shared", "fixed:100:5", "--seconds", "9"]
+    for given, starts in (("5", [0, 5_000_000, 10_000_000]), ("0,2.5,1", [0, 2_500_000, 1_000_000]), ("0", [0, 0, 0])):
+        scenario = made(*words, "--start", given, TRACES[0])
+        assert [case["start_us"] for case in scenario["cases"]] == starts
+    refused(1, "2 values for 3 flows", *words, "--start", "0,5", TRACES[0])
+    refused(1, "would start after 10000 s", *words, "--start", "9999", TRACES[0])
+    refused(2, "isn't a number of seconds from 0 to 10000", *words, "--start", "0,10000.001,1", TRACES[0])
+    refused(2, "it needs --shared", "--start", "5", TRACES[0])
+
+
 def test_a_shared_link():
     words = ["--for", "shared", "--senders", "reno,reno,cubic", "--delay-ms", "20,40"]
     scenario = made(*words, "--shared", "fixed:100:1:500", TRACES[0])

@@ -152,7 +152,7 @@ def is_json(text: str) -> bool:
         return False
 
 
-@pytest.mark.parametrize("name", ["campaign", "live", "shared", "rollout"])
+@pytest.mark.parametrize("name", ["campaign", "live", "shared", "convergence", "rollout"])
 def test_it_takes_the_examples(name: str) -> None:
     assert not errors_of(None, (EXAMPLES / (name + ".json")).read_text(encoding="utf-8"))
 

@@ -17,7 +17,7 @@ from __future__ import annotations
 
 import re
 from dataclasses import dataclass
-from typing import IO, Any, Dict, Iterable, Iterator, List, Mapping, Tuple, Union
+from typing import IO, Any, Dict, Iterable, Iterator, List, Mapping, Sequence, Tuple, Union
 
 import numpy as np
 import pandas as pd
@@ -81,7 +81,12 @@ def read_acks(source: Source) -> pd.DataFrame:
     `ecn_bytes`, `bytes_in_flight`, `bytes_pending` (bytes), `packets_acked`, `packets_misordered`, `ecn_packets`,
     `lost_pkts_sample`, `packets_in_flight` (packets), `now`, `rtt_sample_us` (microseconds), `rate_incoming`,
     `rate_outgoing` (bytes a second), each uint64, and `was_timeout` (bool). Source: `acks` or `shared-acks`."""
-    flows = list(acks_in(source))
+    return joined(list(acks_in(source)))
+
+
+def joined(flows: Sequence[AckFrame]) -> pd.DataFrame:
+    """The acknowledgements of flows in one frame, as read_acks has them. The categories of `case` are all cases in
+    order, also those without an acknowledgement."""
     if not flows:
         return pd.DataFrame(columns=["flow", "case", "agent", *PRIMITIVES])
     made = pd.concat([flow.frame for flow in flows], ignore_index=True, copy=False)

@@ -160,7 +160,7 @@ def flow_of(words: Sequence[str], place: str) -> int:
 def times_of_log(path: PathLike) -> List[int]:
     """The chances of a log as the times of a trace, in whole milliseconds from the log's beginning on."""
     log = read_log(path)
-    times = sorted(math.floor(event.time - log.base) for event in log.events if event.sign == "#")
+    times = times_of(log)
     if not times:
         raise CcpError(
             "%s: it has no chance of the link, which is a line TIME # BYTES; a log of a tunnel has none" % log.path
@@ -168,6 +168,11 @@ def times_of_log(path: PathLike) -> List[int]:
     if times[0] < 0:
         raise CcpError("%s: a chance comes %d ms before the time of `# base timestamp:`" % (log.path, -times[0]))
     return times
+
+
+def times_of(log: LinkLog) -> List[int]:
+    """The chances of a log, in whole milliseconds from its beginning on."""
+    return sorted(math.floor(event.time - log.base) for event in log.events if event.sign == "#")
 
 
 # ---- what was measured

@@ -1,6 +1,7 @@
 """Writes the figures of each case of a scenario: throughput, utilization, loss, delay, window, power, fairness.
 
-    ccp metrics SCENARIO TEXT.. [--until S] [--from S] [--by COLUMNS] [--columns COLUMNS] [--format csv|json|parquet]
+    ccp metrics SCENARIO TEXT.. [--until S] [--from S] [--window-ms W] [--by COLUMNS] [--columns COLUMNS]
+                                [--format csv|json|parquet]
     ccp metrics SCENARIO --orders all|N [--changes N] [--by COLUMNS] ..
 
     ccp campaign scenario.json > table.txt
@@ -8,9 +9,10 @@
     ccp metrics scenario.json table.txt acks.txt > metrics.csv
     ccp metrics scenario.json table.txt acks.txt --by trace,sender,queue
 
-A TEXT is what `campaign`, `shared`, `timeline` or `acks` printed of the scenario; it is recognized by its beginning,
-and `-` is standard input. There is a line for each case, with the scenario's own columns first, then the figures. A
-figure whose text isn't given is empty. Texts of different runs, or of another scenario, are errors.
+A TEXT is what `campaign`, `timeline` or `acks`, or of flows on one link `shared`, `shared-timeline` or `shared-acks`,
+printed of the scenario; it is recognized by its beginning, and `-` is standard input. There is a line for each case,
+with the scenario's own columns first, then the figures. A figure whose text isn't given is empty. Texts of different
+runs, or of another scenario, are errors.
 
 --until S computes every figure of the acknowledgements over the first S seconds of virtual time, so that cases of
 different lengths are comparable; --from S leaves out what came before, as slow start. --by groups cases by columns: for
@@ -45,12 +47,13 @@ from typing import IO, Any, Dict, Iterable, Iterator, List, Mapping, Sequence, T
 import numpy as np
 import pandas as pd
 
-from . import orders, slow_start, texts
+from . import orders, shares, slow_start, texts
 from .arguments import add_ccp, list_of, warn, whole
 from .errors import BadText, CcpError, UsageError
 from .files import name_of, reason_of
-from .frames import AckFrame, Timeline, acks_in, timeline_of
+from .frames import AckFrame, Timeline, acks_in, joined, timeline_of
 from .scenario_files import read_scenario
+from .shares import jain
 from .traces import Trace, trace_times
 
 OWN = "case trace sender agent ss ca mss queue delay_ms timeout_ms slots lag mark loss rate seed".split()
@@ -59,7 +62,7 @@ COUNTS = "packets lost timeouts reports held faults epochs".split()
 FIGURES = (
     "end_s span_s throughput_mbps utilization loss_rate queueing_mean_ms queueing_p50_ms queueing_p95_ms "
     "queueing_p99_ms rtt_mean_ms power first_loss_s slow_start_loss_share window_mean_bytes share jain "
-    "link_utilization link_loss_rate"
+    "jain_windows fair_after_s link_utilization link_loss_rate"
 ).split()
 METRICS = COUNTS + FIGURES
 PERCENTILES = (50, 95, 99)
@@ -95,6 +98,8 @@ SHOWN: Dict[str, Figure] = {
     "span_s": Figure("measured span [s]", 1, 2, True),
     "share": Figure("share [%]", 100, 1, True),
     "jain": Figure("Jain's index", 1, 3, True),
+    "jain_windows": Figure("Jain's index, mean of windows", 1, 3, True),
+    "fair_after_s": Figure("time to the fair share [s]", 1, 2),
 }
 
 
@@ -105,6 +110,16 @@ class Window:
 
     begin_us: int = 0
     until_us: int | None = None
+
+
+@dataclass(frozen=True)
+class SharedRun:
+    """A run of flows on one link: the link's trace, when its last round ends, in microseconds, and the numbers of the
+    line `link`."""
+
+    trace: str
+    end_us: int
+    packets: Mapping[str, int]
 
 
 # ---- the scenario's own columns
@@ -190,22 +205,23 @@ def whole_counts(frame: pd.DataFrame) -> Dict[str, int]:
 
 
 def figures_of_acks(
-    case: Mapping[str, Any], frame: pd.DataFrame, link: Link, window: Window = Window()
+    case: Mapping[str, Any],
+    frame: pd.DataFrame,
+    link: Link,
+    window: Window = Window(),
+    run: SharedRun | None = None,
 ) -> Dict[str, Any]:
     """The figures of a case's acknowledgements, as frames.AckFrame has them, over a window of time. Where the case ends
-    before the window does, the window ends with it."""
+    before the window does, the window ends with it; with `run` it ends with the run, and begins with the flow."""
     end_us = int(frame["now"].iloc[-1]) if len(frame) else 0
-    until_us = end_us if window.until_us is None else min(window.until_us, end_us)
+    after_us, upto_us, span_us = bounds_of(case, end_us, window, run)
     made: Dict[str, Any] = {"end_s": end_us / 1e6}
-    if until_us <= window.begin_us and window.begin_us:
+    if upto_us <= after_us and after_us:
         return made
-    now = frame["now"].to_numpy()
-    first = int(np.searchsorted(now, window.begin_us, "right")) if window.begin_us else 0
-    inside = frame.iloc[first : int(np.searchsorted(now, until_us, "right"))]
+    inside = inside_of(frame, after_us, upto_us)
     counts = whole_counts(inside)
     packets = counts["acks"] - counts["timeouts"]
-    chances = link.chances(case["trace"], until_us, window.begin_us)
-    span_us = until_us - window.begin_us
+    chances = link.chances(run.trace if run else case["trace"], upto_us, after_us)
     made.update(of_counts(span_us, chances, packets, counts["lost"], counts["timeouts"], counts["acked"]))
     losses = inside["now"].to_numpy()[inside["lost_pkts_sample"].to_numpy() > 0]
     made["first_loss_s"] = float(losses[0]) / 1e6 if len(losses) else None
@@ -214,6 +230,28 @@ def figures_of_acks(
     if made.get("rtt_mean_ms"):
         made["power"] = (made["throughput_mbps"] or 0) / made["rtt_mean_ms"]
     return made
+
+
+def bounds_of(
+    case: Mapping[str, Any], end_us: int, window: Window, run: SharedRun | None = None
+) -> Tuple[int, int, int]:
+    """Three times in microseconds: what counts comes after the first, or from the beginning where it is 0, and at or
+    before the second; the third is the span from one to the other. `end_us` is that of the case's acknowledgements."""
+    if run is None:
+        until_us = end_us if window.until_us is None else min(window.until_us, end_us)
+        return window.begin_us, until_us, until_us - window.begin_us
+    start_us = int(case.get("start_us", 0))
+    until_us = run.end_us if window.until_us is None else min(window.until_us, run.end_us)
+    # a chance at the start may serve the flow, and one at the end of the last round serves none
+    after_us, upto_us = max(window.begin_us, start_us - 1), min(until_us, run.end_us - 1)
+    return after_us, upto_us, max(0, until_us - max(window.begin_us, start_us))
+
+
+def inside_of(frame: pd.DataFrame, after_us: int, upto_us: int) -> pd.DataFrame:
+    """The acknowledgements after a time, or from the beginning where it is 0, and up to another."""
+    now = frame["now"].to_numpy()
+    first = int(np.searchsorted(now, after_us, "right")) if after_us else 0
+    return frame.iloc[first : int(np.searchsorted(now, upto_us, "right"))]
 
 
 def delays_of(frame: pd.DataFrame, delay_us: int) -> Dict[str, float]:
@@ -239,18 +277,25 @@ def mean_window(reports: pd.DataFrame, window: Window = Window()) -> float | Non
     return float((reports["cwnd"].to_numpy().astype(float) * spans).sum() / total) if total else None
 
 
-def figures_of_table(table: texts.Table, scenario: Mapping[str, Any], link: Link) -> List[Dict[str, Any]]:
-    """The figures of each row of a table. Over a shared link the span of each flow is that of the run."""
-    shared = scenario.get("shared") if table.link else None
-    if table.link and not shared:
-        raise CcpError("the table is one of `shared`, and the scenario has no member shared")
-    found = shared_figures(table, shared, link) if shared else [{} for _ in table.rows]
+def shared_run(scenario: Mapping[str, Any], packets: Mapping[str, int] | None) -> SharedRun | None:
+    """The run of flows on one link whose line `link` has these numbers; None where there is no such line."""
+    if packets is None:
+        return None
+    shared = scenario.get("shared")
+    if not shared:
+        raise CcpError("a text is one of `shared`, and the scenario has no member shared")
+    return SharedRun(shared["trace"], packets["rounds"] * shared["quantum_us"], packets)
+
+
+def figures_of_table(
+    table: texts.Table, scenario: Mapping[str, Any], link: Link, run: SharedRun | None
+) -> List[Dict[str, Any]]:
+    """The figures of each row of a table. Over a shared link the span of each flow is that of the run from its start
+    on."""
+    found = shared_figures([row["acked"] for row in table.rows], run, link) if run else [{} for _ in table.rows]
     for made, row, case in zip(found, table.rows, scenario["cases"]):
-        if table.link and shared:
-            span_us = table.link["rounds"] * shared["quantum_us"]
-            chances = link.chances(shared["trace"], span_us - 1)
-        else:
-            span_us, chances = row["now"], link.chances(case["trace"], row["now"])
+        after_us, upto_us, span_us = bounds_of(case, row["now"], Window(), run)
+        chances = link.chances(run.trace if run else case["trace"], upto_us, after_us)
         made["end_s"] = row["now"] / 1e6
         made.update(
             of_counts(span_us, chances, row["acks"] - row["timeouts"], row["lost"], row["timeouts"], row["acked"])
@@ -260,23 +305,15 @@ def figures_of_table(table: texts.Table, scenario: Mapping[str, Any], link: Link
     return found
 
 
-def shared_figures(table: texts.Table, shared: Mapping[str, Any], link: Link) -> List[Dict[str, Any]]:
-    """The figures of each flow that only a shared link has."""
-    acked = [row["acked"] for row in table.rows]
-    of_link = table.link or {}
-    until_us = of_link["rounds"] * shared["quantum_us"] - 1
+def shared_figures(acked: Sequence[int], run: SharedRun, link: Link) -> List[Dict[str, Any]]:
+    """The figures of each flow that only a shared link has; `acked` are the bytes that each got."""
+    lost, served = run.packets["lost"], run.packets["acked"]
     of_all = {
         "jain": jain(acked),
-        "link_utilization": divided(of_link["acked"], link.chances(shared["trace"], until_us)),
-        "link_loss_rate": divided(of_link["lost"], of_link["acked"] + of_link["lost"]),
+        "link_utilization": divided(served, link.chances(run.trace, run.end_us - 1)),
+        "link_loss_rate": divided(lost, served + lost),
     }
     return [{**of_all, "share": divided(part, sum(acked))} for part in acked]
-
-
-def jain(values: Sequence[float]) -> float | None:
-    """Jain's index of fairness: 1 where all values are equal, 1/n where one is all; None where all are 0."""
-    squares = sum(value * value for value in values)
-    return sum(values) ** 2 / (len(values) * squares) if squares else None
 
 
 def figures(
@@ -287,27 +324,35 @@ def figures(
     acks: Iterable[AckFrame] | None = None,
     window: Window | Mapping[str, Window] = Window(),
     answered: Iterable[str] = (),
+    shared_link: Mapping[str, int] | None = None,
+    length_us: int | None = None,
 ) -> pd.DataFrame:
     """The figures of each case of a scenario, a row a case: the scenario's columns, METRICS and `doubts`.
 
     Each source is optional; without `acks` a window of time is a CcpError. `window` is that of all cases, or maps a
     trace to that of its cases. `answered` names senders whose agent is meant
-    to change their program. Units are in the columns' names, shares are from 0 to 1. Errors: CcpError, where the
-    sources are of different runs or of another scenario."""
+    to change their program. `shared_link` are the numbers of the line `link` where the acknowledgements and the
+    timeline are of flows on one link, and `length_us` is the length of windows of time, for Jain's index and the time
+    to the fair share (shares.window_us has the one without it). Units are in the columns' names, shares are from 0
+    to 1. Errors: CcpError, where the sources are of different runs or of another scenario."""
     names, own = columns_of(scenario)
     cases, link = scenario["cases"], Link(scenario)
     windows = [window if isinstance(window, Window) else window[case["trace"]] for case in cases]
     if any(one != Window() for one in windows) and acks is None:
         raise CcpError("a window of time needs the acknowledgements, as `acks` prints them")
     found: List[Dict[str, Any]] = [{} for _ in cases]
+    run = shared_run(scenario, table.link if table and table.link else shared_link)
     if table:
         check_cases(scenario, [row["case"] for row in table.rows], "the table")
-        found = figures_of_table(table, scenario, link)
+        found = figures_of_table(table, scenario, link, run)
     rows: List[Any] = list(table.rows) if table else [None for _ in cases]
     if acks is not None:
-        add_acks(found, cases, rows, acks, link, windows)
+        acks = list(acks) if run else acks
+        add_acks(found, cases, rows, acks, link, windows, run)
+    if run and isinstance(acks, list):
+        add_shares(found, acks, scenario, link, windows, run, length_us)
     if timeline is not None:
-        add_timeline(found, cases, rows, timeline, windows)
+        add_timeline(found, cases, rows, timeline, [begun(one, case, run) for one, case in zip(windows, cases)])
     for made, case, row in zip(found, cases, rows):
         made["doubts"] = "; ".join(doubts_of(case, made, row, timeline, own_of(case)["sender"] in answered))
     made_frame = pd.DataFrame(
@@ -340,6 +385,7 @@ def add_acks(
     acks: Iterable[AckFrame],
     link: Link,
     windows: Sequence[Window],
+    run: SharedRun | None,
 ) -> None:
     """Adds the figures of acknowledgements, where their counts are those of the table."""
     names = []
@@ -348,8 +394,44 @@ def add_acks(
         if at < len(cases) and flow.case == cases[at]["name"]:
             if rows[at]:
                 texts.same_run(flow.case, "acknowledgements", whole_counts(flow.frame), rows[at])
-            found[at].update(figures_of_acks(cases[at], flow.frame, link, windows[at]))
+            found[at].update(figures_of_acks(cases[at], flow.frame, link, windows[at], run))
     check_cases({"cases": cases}, names, "the acknowledgements")
+
+
+def add_shares(
+    found: List[Dict[str, Any]],
+    acks: Sequence[AckFrame],
+    scenario: Mapping[str, Any],
+    link: Link,
+    windows: Sequence[Window],
+    run: SharedRun,
+    length_us: int | None,
+) -> None:
+    """Adds the figures of flows on one link: the shares of what each got in its window of time, Jain's index in windows
+    of `length_us` in which two flows or more take part, and the time to the fair share over the whole run."""
+    if not acks:
+        return
+    acked = []
+    for flow, case, window in zip(acks, scenario["cases"], windows):
+        after_us, upto_us, _ = bounds_of(case, 0, window, run)
+        acked.append(whole_counts(inside_of(flow.frame, after_us, upto_us))["acked"])
+    every = joined(acks)
+    flows = shares.flows_of(every, scenario, run.end_us)
+    edges = shares.edges_us(run.end_us, length_us or shares.window_us(run.end_us, shares.WINDOWS))
+    got = shares.counted_in(every, flows, edges, "bytes_acked")
+    packets = shares.counted_in(every, flows, edges, "packets_acked")
+    active = shares.active_in(flows, edges)
+    until_us = run.end_us if windows[0].until_us is None else windows[0].until_us
+    is_inside = (edges[:-1] >= windows[0].begin_us) & (edges[1:] <= until_us)
+    index = shares.jain_in(got[is_inside], active[is_inside], 2).mean()
+    fair = shares.fair_after_s(packets, active, shares.chances_in(link.trace(run.trace), edges), flows)
+    for made, more, after_s in zip(found, shared_figures(acked, run, link), fair):
+        made.update(more, jain_windows=index, fair_after_s=after_s)
+
+
+def begun(window: Window, case: Mapping[str, Any], run: SharedRun | None) -> Window:
+    """A window of time that begins at a flow's start or later."""
+    return Window(max(window.begin_us, case.get("start_us", 0)), window.until_us) if run else window
 
 
 def add_timeline(
@@ -437,17 +519,25 @@ def groups(frame: pd.DataFrame, by: Sequence[str], names: Sequence[str] = tuple(
     """The cases of `figures` with equal values in the columns `by`, a row a group: `n` is the number of its cases, and
     of each figure `NAME_n` the number of cases that have it, `NAME_mean`, `NAME_sd` their standard deviation (divisor
     n - 1), and `NAME_ci95` half of the 95 % interval of the mean by Student's t. The order is that of the cases."""
-    from scipy.special import stdtrit  # the quantile of Student's t; scipy.stats takes far longer to import
-
     grouped = frame.groupby(list(by), sort=False, dropna=False)
     made = grouped.size().rename("n").to_frame()
     for name in names:
         some = grouped[name].agg(["count", "mean", "std"]).astype("float64")
         count = some["count"].to_numpy()
-        half = stdtrit(np.maximum(count - 1, 1), 0.975) * some["std"] / np.sqrt(np.maximum(count, 1))
+        half = quantile_of_t(count - 1) * some["std"] / np.sqrt(np.maximum(count, 1))
         made[name + "_n"] = count.astype(int)
         made[name + "_mean"], made[name + "_sd"], made[name + "_ci95"] = some["mean"], some["std"], half
     return made.reset_index()
+
+
+def quantile_of_t(degrees: np.ndarray) -> np.ndarray:
+    """The quantile 0.975 of Student's t; nan where there is no degree of freedom. scipy is imported only where there
+    is one, since that takes long."""
+    if (degrees < 1).all():
+        return np.full(len(degrees), np.nan)
+    from scipy.special import stdtrit  # scipy.stats takes far longer to import
+
+    return np.asarray(stdtrit(np.maximum(degrees, 1), 0.975))
 
 
 # ---- what is printed
@@ -521,11 +611,19 @@ def frame_of_json(made: Mapping[str, Any]) -> Tuple[pd.DataFrame, bool]:
 
 # ---- the command
 
+WINDOW_HELP = (
+    "length of the windows of time of flows on one link, in ms (1, 2 or 5 times a power of 10: at most %d windows)"
+    % shares.WINDOWS
+)
+
 
 def add_arguments(parser: argparse.ArgumentParser) -> None:
     parser.add_argument("scenario", metavar="SCENARIO", help="the scenario's file")
     parser.add_argument(
-        "texts", nargs="*", metavar="TEXT", help="what campaign, shared, timeline or acks printed of it"
+        "texts",
+        nargs="*",
+        metavar="TEXT",
+        help="what campaign, timeline or acks, or shared, shared-timeline or shared-acks, printed of it",
     )
     parser.add_argument(
         "--until", type=seconds, metavar="S", help="figures over the first S seconds (to the end of each case)"
@@ -533,6 +631,7 @@ def add_arguments(parser: argparse.ArgumentParser) -> None:
     parser.add_argument(
         "--from", dest="begin", type=seconds, default=0, metavar="S", help="leaves out the first S seconds (0)"
     )
+    parser.add_argument("--window-ms", type=whole(1, 10**6), metavar="W", help=WINDOW_HELP)
     names = list_of(str)
     parser.add_argument(
         "--by", type=names, metavar="COLUMNS", help="mean, deviation and interval over cases that are equal in these"
@@ -582,23 +681,37 @@ def opened(path: str) -> Iterator[IO[bytes]]:
 
 
 class Continued:
-    """A file whose beginning was read already."""
+    """A file whose beginning was read already. `end` are the last bytes that were read, which hold a line `link`."""
 
     def __init__(self, beginning: bytes, file: IO[bytes]) -> None:
-        self.beginning, self.file = beginning, file
+        self.beginning, self.file, self.end = beginning, file, b""
 
     def read(self, size: int = -1) -> bytes:
         beginning, self.beginning = self.beginning, b""
-        return beginning + self.file.read(size if size < 0 else max(0, size - len(beginning)))
+        piece = beginning + self.file.read(size if size < 0 else max(0, size - len(beginning)))
+        self.end = (self.end + piece)[-1024:]
+        return piece
 
 
 @dataclass
 class Given:
-    """The texts of a run: the table, the timeline, and the path of the acknowledgements, which are read in pieces."""
+    """The texts of a run: the table, the timeline and the acknowledgements, and the numbers of the line `link`, which
+    those of flows on one link have."""
 
     table: texts.Table | None = None
     timeline: Timeline | None = None
     acks: List[AckFrame] | None = None
+    link: Dict[str, int] | None = None
+
+    def add_link(self, end: str, path: str) -> None:
+        """Keeps the numbers of the line `link` at the end of a text, where there is one. All texts have the same."""
+        last = end.rstrip("\r\n").rpartition("\n")[2]
+        if not last.startswith("link "):
+            return
+        found = texts.read_link(last)
+        if self.link not in (None, found):
+            raise CcpError("%s: its line `link` differs from that of another text: different runs" % name_of(path))
+        self.link = found
 
 
 def read_given(paths: Sequence[str]) -> Given:
@@ -613,11 +726,13 @@ def read_given(paths: Sequence[str]) -> Given:
                 raise CcpError("%s: a text of campaign, shared, timeline or acks is expected" % name_of(path))
             if getattr(given, name) is not None:
                 raise UsageError("%s: there are two texts of this kind" % name_of(path))
+            whole_file = Continued(beginning, file)
             if name == "acks":
-                given.acks = list(acks_in(Continued(beginning, file)))  # type: ignore[arg-type]
+                given.acks = list(acks_in(whole_file))  # type: ignore[arg-type]
             else:
-                text = (beginning + file.read()).decode("utf-8", "surrogateescape")
+                text = whole_file.read().decode("utf-8", "surrogateescape")
                 setattr(given, name, texts.read_table(text) if name == "table" else timeline_of(texts.flows_in(text)))
+            given.add_link(whole_file.end.decode("utf-8", "surrogateescape"), path)
     return given
 
 
@@ -686,13 +801,12 @@ def run(arguments: argparse.Namespace) -> int:
     known = METRICS if arguments.by else [*names, *METRICS, "doubts"]
     check_columns("--columns", arguments.columns or [], known)
     if arguments.orders is not None:
-        frame = figures_of_orders(scenario, arguments.orders, arguments.changes, arguments.ccp)
+        frame, run_there = figures_of_orders(scenario, arguments.orders, arguments.changes, arguments.ccp), None
     else:
-        given = read_given(paths)
-        frame = figures(scenario, table=given.table, timeline=given.timeline, acks=given.acks, window=window)
+        frame, run_there = figures_of_texts(scenario, read_given(paths), window, arguments.window_ms)
     if not arguments.quiet:
         print_doubts(frame)
-        note_short(frame, window)
+        note_short(frame, window, run_there)
         for text in slow_start.note_of(list(frame["case"]), list(frame[slow_start.FIGURE])):
             warn(text)
     if arguments.by:
@@ -708,9 +822,30 @@ def run(arguments: argparse.Namespace) -> int:
     return 0
 
 
-def note_short(frame: pd.DataFrame, window: Window) -> None:
-    """Warns of cases that end before the window of time does, so that their figures are of a shorter span."""
+def figures_of_texts(
+    scenario: Mapping[str, Any], given: Given, window: Window, window_ms: int | None
+) -> Tuple[pd.DataFrame, SharedRun | None]:
+    """The figures of a scenario's texts, with the run where they are of flows on one link."""
+    frame = figures(
+        scenario,
+        table=given.table,
+        timeline=given.timeline,
+        acks=given.acks,
+        window=window,
+        shared_link=given.link,
+        length_us=window_ms and 1000 * window_ms,
+    )
+    return frame, shared_run(scenario, given.link)
+
+
+def note_short(frame: pd.DataFrame, window: Window, run: SharedRun | None) -> None:
+    """Warns of cases that end before the window of time does, so that their figures are of a shorter span. Flows on one
+    link end with their run."""
     if window.until_us is None:
+        return
+    if run:
+        if run.end_us < window.until_us:
+            warn("the run ends at %g s, before --until %g" % (run.end_us / 1e6, window.until_us / 1e6))
         return
     short = frame[frame["end_s"] * 1e6 < window.until_us]
     for case, end in zip(short["case"], short["end_s"]):

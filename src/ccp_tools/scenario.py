@@ -30,6 +30,10 @@ packets are lost. --seeds 1..20 repeats each loss by chance with each seed; `rat
 seed of their own. Equal seeds lose the same packets in every case, whatever the trace, the sender and the queue. Losses
 are drawn for the first 2*acks packets of a flow; packets after these are lost by the queue alone.
 
+Flows on one link. --shared TRACE:QUEUE:QUANTUM-MS[:ROUNDS] gives all flows one link. --start says when each of them
+begins, in seconds of the link's time: a value for each flow in order, as 0,5,10, or the time from each flow's start to
+the next one's: --start 5 starts the first at 0 s, the second at 5 s, the third at 10 s.
+
 Length. A case ends after --acks acknowledgements. --seconds S computes them for each trace and delay: as many as the
 link has chances in the first S seconds less the delay. So a sender that keeps the link busy ends at about S seconds,
 and a slower one later. With --shared, S is the length of the run.
@@ -143,6 +147,16 @@ def steps(text: str) -> Steps:
     return Steps(tuple(names))
 
 
+def start(text: str) -> int:
+    """A parser of a flow's start in seconds, as microseconds."""
+    value = thousandths(text)
+    if value is None or 1000 * value > LIMITS["start_us"]:
+        most = LIMITS["start_us"] // 10**6
+        what = "%s isn't a number of seconds from 0 to %d with at most three decimals"
+        raise argparse.ArgumentTypeError(what % (shown(text), most))
+    return 1000 * value
+
+
 def shared(text: str) -> Dict[str, Any]:
     """A parser of the member `shared`: TRACE:QUEUE:QUANTUM-MS[:ROUNDS]."""
     parts = text.split(":")
@@ -229,8 +243,9 @@ class Grid:
     """What a scenario is made of; the defaults are those of the options. Times are in microseconds but for `cut_ms`.
 
     `traces` are pairs of a name (or None, then by the file) and a file. `seconds_us` is the length in place of `acks`.
-    `shared` is the bottleneck of all flows, as the member of a scenario, and `steps` are those of a rollout. A packet
-    has `aggregate` segments of `mss` bytes, and takes as many chances."""
+    `shared` is the bottleneck of all flows, as the member of a scenario, and `start_us` says when they start, as
+    starts_of reads it; `steps` are those of a rollout. A packet has `aggregate` segments of `mss` bytes, and takes as
+    many chances."""
 
     traces: List[Tuple[str | None, str]]
     senders: List[Sender] = field(default_factory=lambda: [sender(name) for name in AGENTS])
@@ -251,6 +266,7 @@ class Grid:
     shared: Dict[str, Any] | None = None
     steps: List[Steps] | None = None
     cwnd: List[int] | None = None
+    start_us: List[int] | None = None
     aggregate: int = 1
     is_quiet: bool = False
 
@@ -273,6 +289,9 @@ class Grid:
         if self.shared:
             made["shared"] = with_length(self, traces, len(points))
         made["cases"] = self.cases(traces, points)
+        if self.start_us:
+            for case, start_us in zip(made["cases"], starts_of(self.start_us, len(points))):
+                case["start_us"] = start_us
         return made
 
     def read_traces(self) -> Dict[str, List[int]]:
@@ -388,6 +407,17 @@ class Grid:
         beside["aggregate"] = count if count > 1 else None
         made.update({key: value for key, value in beside.items() if value is not None})
         return made
+
+
+def starts_of(given: Sequence[int], flows: int) -> List[int]:
+    """When each flow starts, in microseconds: a value for each in order, or one, the time from a start to the next."""
+    starts = [number * given[0] for number in range(flows)] if len(given) == 1 else list(given)
+    if len(starts) != flows:
+        text = "--start: %d values for %d flows: one for each in order, or one alone, the time between starts"
+        raise CcpError(text % (len(starts), flows))
+    if max(starts, default=0) > LIMITS["start_us"]:
+        raise CcpError("--start: the last of %d flows would start after %d s" % (flows, LIMITS["start_us"] // 10**6))
+    return starts
 
 
 def with_length(grid: Grid, traces: Dict[str, List[int]], flows: int) -> Dict[str, Any]:
@@ -521,6 +551,8 @@ def add_arguments(parser: argparse.ArgumentParser) -> None:
     add("--for", dest="mode", choices=CASES, default="campaign", help=what)
     form = "TRACE:QUEUE:QUANTUM-MS[:ROUNDS]"
     add("--shared", type=shared, metavar=form, help="the bottleneck of all flows, for the mode shared")
+    what = "seconds at which the flows of --shared start, as 0,5,10; or one, the time between their starts (all at 0)"
+    add("--start", type=list_of(start), metavar="S", help=what)
     add("--whole", action="store_true", help="no limits of one run: for `ccp over`")
     what = "the numbers of cases, bytes and acknowledgements in place of the scenario"
     add("--dry-run", action="store_true", help=what)
@@ -532,6 +564,7 @@ def add_arguments(parser: argparse.ArgumentParser) -> None:
 MEMBERS = {
     "delay_ms": "delay_us",
     "seconds": "seconds_us",
+    "start": "start_us",
     "timeout_ms": "timeout_us",
     "cut": "cut_ms",
     "quiet": "is_quiet",
@@ -564,6 +597,8 @@ def check_mode(grid: Grid, arguments: argparse.Namespace) -> None:
         raise UsageError("--steps and --cwnd are of --for rollout")
     if (kind == "shared") != bool(grid.shared):
         raise UsageError("--for shared and --shared TRACE:QUEUE:QUANTUM-MS[:ROUNDS] go together")
+    if grid.start_us and not grid.shared:
+        raise UsageError("--start is of flows on one link: it needs --shared")
     if getattr(arguments, "whole", False) and grid.mode not in SPLIT:
         raise UsageError("--whole is of --for campaign, timeline and acks: a run of %s can't be split" % grid.mode)
 

@@ -331,7 +331,7 @@ IS_SUMMED: Dict[str, bool] = {'acks': True,
 COLUMNS: List[str] = ["case", "agent", *IS_SUMMED]
 SUMS: List[str] = [name for name, is_summed in IS_SUMMED.items() if is_summed]
 
-# the limits, by the names that ccp_base gives them without `most_`
+# the limits, by the names that the crates give them without `most_`
 LIMITS: Dict[str, int] = {'input_bytes': 1048576,
  'audit_bytes': 67108864,
  'text_bytes': 65536,
@@ -372,4 +372,5 @@ LIMITS: Dict[str, int] = {'input_bytes': 1048576,
  'reason': 9,
  'frame_bytes': 8596,
  'kept_programs': 16,
- 'messages': 1048576}
+ 'messages': 1048576,
+ 'start_us': 10000000000}

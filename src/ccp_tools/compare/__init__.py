@@ -16,12 +16,16 @@ s and at most what 65,536 acknowledgements reach. Each case has so many acknowle
 and every figure is of those up to S. With --acks each case has as many acknowledgements as you say; their spans differ
 then, which --different-spans accepts.
 
+--measured [NAME=]LOG lays a real sender beside the simulated ones, in the table and in the report: its throughput and
+delay, from a link log of Mahimahi (mm-link --uplink-log) or Pantheon. The log belongs to the trace whose chances it
+has, or to the only trace; it is measured up to the end of the trace's measured span.
+
 A case with a fault, without a report, with a window that never moved, with held reports, or whose own program was
 changed by its agent is marked, with the reason, on standard error, in the table and in the report.
 
 DIR gets compare.toml (these options), scenario.json, table.txt, timeline.txt, acks.txt, metrics.csv, metrics.json (and
-groups.csv over seeds), the plots as SVG and PDF, and report.html with all of it. What an earlier comparison wrote
-there is removed first. A file compare.toml has the options by their names, as `senders = ["reno", "cubic"]`, and
+groups.csv over seeds), the plots as SVG (--plots svg,pdf), and report.html with all of it. What an earlier comparison
+wrote there is removed first. A file compare.toml has the options by their names, as `senders = ["reno", "cubic"]`, and
 `traces`; options beside it go before it, and its paths are relative to the folder that you are in. --dry-run writes
 nothing: it says how large the comparison is, and about how long it takes. `ccp audit` checks the timeline against the
 scenario.

@@ -12,14 +12,14 @@ from typing import Any, Dict, List, Mapping, Sequence
 import pandas as pd
 
 from .. import metrics, plots, program
-from ..arguments import Parser, add_ccp, warn
+from ..arguments import Parser, add_ccp, list_of, warn
 from ..errors import CcpError, UsageError
 from ..files import read_text, reason_of
 from ..metrics import Window
 from ..scenario import add_grid, check_longest, grid_of, seconds
 from ..scenario_files import Scenario, scenario_text
 from ..senders import files_of, senders
-from . import programs, report, shared
+from . import measured, programs, report, shared
 from .cases import Comparison
 from .runs import Progress, Results, Runner, shown_cases
 
@@ -57,6 +57,13 @@ def named_senders(text: str) -> Named:
     return made
 
 
+def plot_form(text: str) -> str:
+    """The ending of a plot's files."""
+    if "." + text not in plots.KINDS:
+        raise argparse.ArgumentTypeError("%s is no form of a plot: svg, pdf, png and eps are accepted" % text)
+    return text
+
+
 def add_arguments(parser: argparse.ArgumentParser) -> None:
     """Adds the arguments of `ccp compare`."""
     add_grid(parser)
@@ -68,7 +75,10 @@ def add_arguments(parser: argparse.ArgumentParser) -> None:
     add("--from", dest="begin", type=seconds, metavar="S", help="leaves out the first S seconds, as slow start (0)")
     add("--shared", action="store_true", help="also runs all senders together over each trace, and shows their shares")
     add("--different-spans", action="store_true", help="accepts cases that are measured over different spans")
+    measured.add_arguments(parser)
     add("--out", metavar="DIR", help="the folder that gets all files")
+    forms = list_of(plot_form)
+    add("--plots", type=forms, default=["svg"], metavar="LIST", help="forms of plots: svg, pdf, png, eps (svg)")
     add("--dry-run", action="store_true", help="only says how large it is and about how long it takes")
     plots.add_look(parser)
     actions["--title"].help = "the title of the report"
@@ -101,8 +111,8 @@ def toml_words(values: Mapping[str, Any], path: str) -> List[str]:
             continue
         if isinstance(value, bool):
             words += ["--" + name] if value else []
-        elif name == "portus" and isinstance(value, list):
-            words += [word for one in value for word in ("--portus", str(one))]
+        elif name in ("portus", "measured") and isinstance(value, list):
+            words += [word for one in value for word in ("--" + name, str(one))]
         elif isinstance(value, (str, int, float, list)):
             parts = value if isinstance(value, list) else [value]
             words.append(
@@ -157,6 +167,8 @@ def toml_text(arguments: argparse.Namespace, grid: Comparison) -> str:
         values[name] = us and us / 1e6
     values["timeout-ms"] = arguments.timeout_ms and arguments.timeout_ms / 1000
     values["different-spans"], values["shared"] = arguments.different_spans, arguments.shared
+    values["measured"] = ["%s=%s" % pair for pair in arguments.measured]
+    values["plots"] = arguments.plots if arguments.plots != ["svg"] else None
     size = arguments.size
     values["size"] = None if size == "screen" else size if isinstance(size, str) else "%dx%d" % size
     name, points = arguments.font
@@ -256,6 +268,7 @@ def run(arguments: argparse.Namespace) -> int:
         raise UsageError("--out DIR is expected")
     folder = Path(arguments.out)
     windows = windows_of(grid, scenario, arguments.begin or 0)
+    beside = measured.read(arguments.measured, scenario, windows)
     cleared(folder)
     before = [one.name for one in folder.iterdir()]
     progress = Progress(arguments.quiet)
@@ -266,7 +279,7 @@ def run(arguments: argparse.Namespace) -> int:
         shown = shown_cases(scenario)
         numbers = [number for some in shown.values() for number in some]
         results = Runner(path, folder, progress).run(scenario, windows, answered_of(arguments), numbers)
-        finish(arguments, scenario, results, windows, folder, progress, path, remarks)
+        finish(arguments, scenario, results, windows, folder, progress, path, remarks, beside)
     finally:
         write_manifest(folder, before)
     return 0
@@ -281,8 +294,9 @@ def finish(
     progress: Progress,
     path: Path,
     remarks: Sequence[str],
+    beside: Sequence[measured.RealSender] = (),
 ) -> None:
-    """Writes the figures, the plots and the report, and prints the table."""
+    """Writes the figures, the plots and the report, and prints the table, with the real senders `beside`."""
     frame = results.figures
     by = ["trace", "sender", *report.varying_of(frame)]
     groups = metrics.groups(frame, by) if frame["seed"].nunique() > 1 else None
@@ -300,8 +314,10 @@ def finish(
     if sharings:
         write(folder, "shared.json", shared.json_text(sharings))
     progress.say("plots")
-    made = report.draw(scenario, results, folder, plots.look_of(arguments), windows, sharings)
-    page = report.Page(arguments, scenario, frame, by, groups, results, made, windows, path, sharings, remarks)
+    forms = ["." + form for form in arguments.plots]
+    made = report.draw(scenario, results, folder, plots.look_of(arguments), windows, sharings, forms)
+    real = report.Real(measured.rows_of(beside, by), measured.notes_of(beside))
+    page = report.Page(arguments, scenario, frame, by, groups, results, made, windows, path, sharings, remarks, real)
     write(folder, "report.html", page.html((folder / "compare.toml").read_text()))
     progress.say("the report: %s" % (folder / "report.html"))
     sys.stdout.write(page.summary())

@@ -62,31 +62,38 @@ def varying_of(frame: pd.DataFrame) -> List[str]:
 
 @dataclass(frozen=True)
 class Plot:
-    """A plot of the report: the name of its files without ending, its heading, what it shows, and its SVG files."""
+    """A plot of the report: the name of its files without ending, its heading, what it shows, its SVG files, and the
+    names of its files of other forms."""
 
     name: str
     head: str
     what: str
     files: Tuple[Path, ...]
+    others: Tuple[str, ...] = ()
 
 
 # a plot that is still to be drawn: its name, heading, what it shows, and what makes its pages
 Job = Tuple[str, str, str, Callable[[], List[Figure]]]
 
 
-def drawn_all(jobs: Sequence[Job], folder: Path, look: Look) -> List[Plot]:
-    """Draws plots, one process each as far as there are processors. matplotlib uses one of them alone."""
+def drawn_all(jobs: Sequence[Job], folder: Path, look: Look, forms: Sequence[str]) -> List[Plot]:
+    """Draws plots, as SVG and in each of the forms, one process each as far as there are processors. matplotlib uses
+    one of them alone."""
 
-    def work(at: int) -> List[Path]:
+    def work(at: int) -> Tuple[List[Path], List[str]]:
         name, _, _, make = jobs[at]
         pages = plots.drawn(look, make)
         if not pages:
-            return []
-        plots.save(pages, folder / (name + ".pdf"), look)
-        return plots.save(pages, folder / (name + ".svg"), look)
+            return [], []
+        others = [path for form in forms if form != ".svg" for path in plots.save(pages, folder / (name + form), look)]
+        return plots.save(pages, folder / (name + ".svg"), look), [path.name for path in others]
 
     files = in_processes(work, len(jobs))
-    return [Plot(name, head, what, tuple(some)) for (name, head, what, _), some in zip(jobs, files) if some]
+    return [
+        Plot(name, head, what, tuple(some), tuple(others))
+        for (name, head, what, _), (some, others) in zip(jobs, files)
+        if some
+    ]
 
 
 def in_processes(work: Callable[[int], Any], count: int) -> List[Any]:
@@ -114,8 +121,9 @@ def draw(
     look: Look,
     windows: Mapping[str, Window],
     sharings: Sequence[shared.Sharing] = (),
+    forms: Sequence[str] = (".svg",),
 ) -> List[Plot]:
-    """Draws the plots of a comparison, each as SVG and PDF."""
+    """Draws the plots of a comparison, each as SVG and in the other forms."""
     frame, shown = results.figures, shown_cases(scenario)
     look = Look(look.size, "", look.font, look.font_points)
     points = plots.points_of(frame)
@@ -157,7 +165,7 @@ def draw(
         work = partial(plots.flows, timeline, numbers, scenario, acks, look, until[trace])
         add("flows-" + trace, "Over time: " + trace, OVER_TIME, work)
     jobs += shared.jobs_of(sharings, scenario, look)
-    return drawn_all(jobs, folder, look)
+    return drawn_all(jobs, folder, look, forms)
 
 
 OVER_TIME = (
@@ -273,6 +281,14 @@ def overall_rows(frame: pd.DataFrame) -> List[Dict[str, Any]]:
 # ---- the page
 
 
+@dataclass(frozen=True)
+class Real:
+    """Rows of real senders, which come after those of the comparison, and what the report says of each."""
+
+    rows: Sequence[Row] = ()
+    notes: Sequence[str] = ()
+
+
 @dataclass
 class Page:
     """What the report shows."""
@@ -288,10 +304,11 @@ class Page:
     path: Path
     sharings: Sequence[shared.Sharing] = ()
     remarks: Sequence[str] = ()
+    real: Real = Real()
 
     @property
     def rows(self) -> List[Row]:
-        return rows_of(self.frame, self.by, self.groups)
+        return [*rows_of(self.frame, self.by, self.groups), *self.real.rows]
 
     def summary(self) -> str:
         notes = slow_start.note_of(*marks_of(self.frame))
@@ -318,6 +335,7 @@ class Page:
             heads=[*self.by, *(SHOWN[name].label for name in TABLE)],
             rows=[self.cells(rows, row) for row in rows],
             has_doubts=any(row.doubts for row in rows),
+            real=self.real.notes,
             is_seeded=self.groups is not None,
             overall=overall_rows(self.frame) if traces > 1 else [],
             overall_heads=[SHOWN[name].label for name in OVERALL],

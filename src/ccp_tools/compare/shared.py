@@ -10,15 +10,15 @@ import json
 from dataclasses import dataclass, field
 from functools import partial
 from pathlib import Path
-from typing import Any, Dict, Iterable, List, Mapping, Sequence, Tuple
+from typing import Any, Dict, List, Mapping, Sequence, Tuple
 
 import numpy as np
+import pandas as pd
 from matplotlib.figure import Figure
 
-from .. import metrics, plots, program, texts
-from ..frames import AckFrame, acks_in
+from .. import frames, metrics, plots, program, shares, texts
 from ..metrics import Link, Window
-from ..plots import Look, Sheet
+from ..plots import Look
 from ..scenario_files import Scenario, write_scenario
 from ..tables import LIMITS
 from .cases import LEAST_US
@@ -33,12 +33,13 @@ FAIR = 0.95
 @dataclass(frozen=True)
 class Series:
     """What flows and their link had done up to some times. `times` are in seconds, the first one is 0; `acked` has the
-    bytes acknowledged, a row a time and a column a flow. `lost` and `inflight` are packets of all flows."""
+    bytes acknowledged, a row a time and a column a flow, and `lost` the packets of all flows. `queue` is as
+    shares.waits_in has it between the times, or None where the program has no mode `shared-acks`."""
 
     times: List[float]
     acked: np.ndarray
     lost: np.ndarray
-    inflight: np.ndarray
+    queue: pd.DataFrame | None = None
 
 
 @dataclass(frozen=True)
@@ -72,12 +73,27 @@ def scenario_of(scenario: Scenario, trace: str, numbers: Sequence[int], span_us:
 
 def series_of(one: Scenario, path: Path) -> Series:
     """What the flows of a scenario of `shared` had done up to each of STEPS times."""
+    shared = one["shared"]
     if not program.knows_mode("shared-acks", path):
-        return series_of_tables(plots.shared_tables(one, STEPS, str(path)), one["shared"]["quantum_us"])
-    text, _, link = program.run("shared-acks", one, program=path).output.rpartition("link ")
-    rounds = int(dict(word.split("=") for word in link.split())["rounds"])
-    steps = sorted({rounds * step // STEPS for step in range(STEPS + 1)})
-    return series_of_acks(acks_in(text), [step * one["shared"]["quantum_us"] / 1e6 for step in steps])
+        return series_of_tables(plots.shared_tables(one, STEPS, str(path)), shared["quantum_us"])
+    text = program.run("shared-acks", one, program=path).output
+    acks, rounds = frames.read_acks(text), texts.read_link(text)["rounds"]
+    edges = steps_us(shared, rounds)
+    flows = shares.flows_of(acks, one, rounds * shared["quantum_us"])
+    acked, lost = (shares.counted_in(acks, flows, edges, name) for name in ("bytes_acked", "lost_pkts_sample"))
+    return Series(
+        list(edges / 1e6),
+        np.vstack([np.zeros((1, len(flows))), acked.cumsum().to_numpy(dtype=float)]),
+        np.array([0, *lost.sum(axis=1).cumsum()]),
+        shares.waits_in(shares.waits_of(acks, flows), edges),
+    )
+
+
+def steps_us(shared: Mapping[str, Any], rounds: int) -> np.ndarray:
+    """The ends of STEPS equal parts of the rounds that a run may have, up to those that it had, in microseconds; 0
+    comes first."""
+    ends = [max(1, shared["rounds"] * step // STEPS) for step in range(1, STEPS + 1)]
+    return np.unique([0, *(min(end, rounds) for end in ends)]).astype(np.int64) * shared["quantum_us"]
 
 
 def series_of_tables(tables: Sequence[texts.Table], quantum_us: int) -> Series:
@@ -88,27 +104,7 @@ def series_of_tables(tables: Sequence[texts.Table], quantum_us: int) -> Series:
         [0.0, *(link["rounds"] * quantum_us / 1e6 for link in links)],
         np.vstack([np.zeros((1, acked.shape[1])), acked]),
         np.array([0, *(link["lost"] for link in links)]),
-        np.array([0, *(link["inflight"] for link in links)]),
     )
-
-
-def series_of_acks(flows: Iterable[AckFrame], times: Sequence[float]) -> Series:
-    """The series of each acknowledgement of flows, at these times. What is in flight at a time is known as that of the
-    last acknowledgement before it, and a round ends before the next one's time."""
-    acked, edges = [], 1e6 * np.array(times)
-    lost, inflight = (np.zeros(len(times), dtype=int) for _ in range(2))
-    for flow in flows:
-        places = np.searchsorted(flow.frame["now"].to_numpy(), edges, "left")
-        acked.append(before(flow, "bytes_acked", places, True))
-        lost += before(flow, "lost_pkts_sample", places, True).astype(int)
-        inflight += before(flow, "packets_in_flight", places, False).astype(int)
-    return Series(list(times), np.column_stack(acked), lost, inflight)
-
-
-def before(flow: AckFrame, name: str, places: np.ndarray, is_sum: bool) -> np.ndarray:
-    """A column's sum over the acknowledgements before each place, or its last value there; 0 before the first."""
-    values = flow.frame[name].to_numpy().astype(float)
-    return np.concatenate([[0], values.cumsum() if is_sum else values])[places]
 
 
 def converged(times: Sequence[float], acked: np.ndarray) -> float | None:
@@ -161,42 +157,28 @@ def jobs_of(found: Sequence[Sharing], scenario: Scenario, look: Look) -> List[Tu
     """The plots of what was shared, as report.drawn_all takes them."""
     what = (
         "All senders at once over one link: throughput with the link's capacity in grey, shares, and Jain's index; "
-        "then the queue, with its length dashed, and the packets that were lost, when their loss became known. The "
-        "queue is what is in flight less what the link served within the delay before: after losses an upper estimate."
+        "then %sthe packets that were lost, when their loss became known."
     )
+    queue = "how long packets waited in the queue, the mean over the range of those sent in each step, and "
     return [
-        ("shared-" + one.trace, "Sharing one link: " + one.trace, what, partial(pages_of, one, scenario, look))
+        (
+            "shared-" + one.trace,
+            "Sharing one link: " + one.trace,
+            what % ("" if one.series.queue is None else queue),
+            partial(pages_of, one, scenario, look),
+        )
         for one in found
     ]
 
 
 def pages_of(one: Sharing, scenario: Scenario, look: Look) -> List[Figure]:
-    case = next(case for case in scenario["cases"] if case["trace"] == one.trace)
-    link = Link(scenario)
-    edges = [round(time * 1e6) for time in one.series.times]
-    counts = np.array([link.chances(one.trace, edge) if edge else 0 for edge in edges])
-    capacity = 8 * case["mss"] * np.diff(counts) / np.diff(np.array(edges))
-    served = [link.chances(one.trace, edge, max(0, edge - case["delay_us"])) if edge else 0 for edge in edges]
-    shares = plots.shares(one.names, one.series.times, one.series.acked, look, capacity)
-    return [shares, link_page(one.series, np.array(served), case["queue"], look)]
-
-
-def link_page(series: Series, served: np.ndarray, queue: int, look: Look) -> Figure:
-    """The link's queue and losses over time. The queue is what is in flight less what the link served within the delay
-    before, and at most its length: a lost packet is in flight until its loss is known."""
-    sheet = Sheet(look, {}, [7.0, 7.0])
-    figure = sheet.figure()
-    above, below = sheet.axes
-    waiting = np.clip(series.inflight - served, 0, queue)
-    above.plot(series.times, waiting, color="black", marker=".")
-    above.axhline(queue, color="#777777", linestyle=(0, (4, 3)), linewidth=1)
-    above.set(ylabel="queue [packets]", ylim=(0, 1.1 * queue))
-    lost = np.diff(series.lost) / np.diff(series.times)
-    below.stairs(lost, series.times, baseline=None, color="black", linewidth=1.5)
-    below.set(ylabel="lost packets per s", ylim=(0, 1.1 * max(lost.max(initial=0), 1)))
-    plots.stack(sheet, "virtual time [s]")
-    below.set_xlim(0, series.times[-1])
-    return figure
+    mss = next(case["mss"] for case in scenario["cases"] if case["trace"] == one.trace)
+    series, edges = one.series, np.round(1e6 * np.array(one.series.times)).astype(np.int64)
+    capacity = 8 * mss * shares.chances_in(Link(scenario).trace(one.trace), edges) / np.diff(edges)
+    return [
+        plots.shares(one.names, series.times, series.acked, look, capacity),
+        plots.link_page(series.times, series.lost, series.queue, look),
+    ]
 
 
 def table_of(found: Sequence[Sharing]) -> List[Dict[str, Any]]:
@@ -228,6 +210,13 @@ HEADS = [
 ]
 
 
+def mean_waits(series: Series) -> List[float | None] | None:
+    """The mean wait of the packets sent in each step, in milliseconds; None where none was sent, or it isn't known."""
+    if series.queue is None:
+        return None
+    return [None if np.isnan(wait) else float(wait) for wait in series.queue["mean_ms"]]
+
+
 def json_text(found: Sequence[Sharing]) -> str:
     """Shares over time as JSON."""
     made = [
@@ -238,7 +227,7 @@ def json_text(found: Sequence[Sharing]) -> str:
             "times_s": one.series.times,
             "acked_bytes": one.series.acked.tolist(),
             "lost_packets": one.series.lost.tolist(),
-            "packets_in_flight": one.series.inflight.tolist(),
+            "queue_ms": mean_waits(one.series),
         }
         for one in found
     ]

@@ -46,6 +46,8 @@ class Link:
         self.trace = trace
         self.case = case
         self.now = self.rtt = self.sent = self.acked = self.chance = 0
+        # rates are over the time since it; a flow of `shared` may start later
+        self.start = 0
         self.losses = set(case.get("losses", []))
         # in the order of their numbers
         self.flight: Deque[Packet] = deque()
@@ -109,7 +111,8 @@ class Link:
         mss, flight = self.case["mss"], len(self.flight)
         ack = {**dict.fromkeys(PRIMITIVES, 0), **values}
         ack.update(now=self.now, rtt_sample_us=self.rtt, packets_in_flight=flight, bytes_in_flight=flight * mss)
-        if self.now:
-            ack["rate_incoming"] = mss * self.acked * 1_000_000 // self.now
-            ack["rate_outgoing"] = mss * self.sent * 1_000_000 // self.now
+        since = self.now - self.start
+        if since > 0:
+            ack["rate_incoming"] = mss * self.acked * 1_000_000 // since
+            ack["rate_outgoing"] = mss * self.sent * 1_000_000 // since
         return ack

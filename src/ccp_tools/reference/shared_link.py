@@ -20,6 +20,8 @@ class Bottleneck:
 
     def run(self, flows: Sequence[Flow]) -> None:
         """Runs the rounds, and then takes and answers what is left."""
+        for flow in flows:
+            flow.link.start = flow.case.get("start_us", 0)
         while self.rounds < self.case["rounds"] and not all(is_done(flow) for flow in flows):
             now = self.rounds * self.case["quantum_us"]
             self._send_all(flows, now)
@@ -32,7 +34,7 @@ class Bottleneck:
     def _send_all(self, flows: Sequence[Flow], now: int) -> None:
         """The flows take turns until none has fewer packets in flight than it may have."""
         while True:
-            sending = [flow for flow in flows if not is_done(flow) and may_send(flow)]
+            sending = [flow for flow in flows if not is_done(flow) and may_send(flow, now)]
             if not sending:
                 return
             for flow in sending:
@@ -65,9 +67,9 @@ def is_done(flow: Flow) -> bool:
     return bool(flow.acks == flow.case["acks"])
 
 
-def may_send(flow: Flow) -> bool:
-    """Whether a flow has fewer packets in flight than its window allows."""
-    return len(flow.link.flight) < flow.link.allowance(flow.state.cwnd)
+def may_send(flow: Flow, now: int) -> bool:
+    """Whether a flow has started and has fewer packets in flight than its window allows."""
+    return now >= flow.link.start and len(flow.link.flight) < flow.link.allowance(flow.state.cwnd)
 
 
 def answer(flow: Flow, end: int) -> None:

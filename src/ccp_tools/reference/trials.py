@@ -262,6 +262,9 @@ def shared(draw: Random) -> Trial:
         "quantum_us": draw.choice([1, 1000, 50_000, 1_000_000]),
         "rounds": draw.randrange(1, 200),
     }
+    for case in scenario["cases"]:
+        if chance(draw, 0.3):
+            case["start_us"] = draw.choice([0, 1, 50_000, 10_000_000])
     mode = draw.choice(sorted(SHARED))
     expected = SHARED[mode](scenario)
     workers = draw.choice([1, 2, 8, 32])
