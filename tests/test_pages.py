@@ -1,11 +1,7 @@
 """The commands of the pages for users that have no output below them: each of them ends well.
 
 tools/check-docs runs those with `$`, and compares what they print. A block whose commands need what the repository
-<<<<<<< HEAD
 doesn't have, as a cluster, has a line `<!-- not run: REASON -->` above it."""
-=======
-hasn't got, as a cluster, has a line `<!-- not run: REASON -->` above it."""
->>>>>>> 43dede315fb7b1274defcd4fa1e5e5ec3228d9a1
 from __future__ import annotations
 
 import re

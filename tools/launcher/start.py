@@ -1,7 +1,7 @@
 """Runs a sub-command of the package: start.py PACKAGE-FOLDER COUNT INTERPRETER.. COMMAND ARGUMENT..
 
-The launcher starts it by the first interpreter. Where that is too old, or lacks a module that the command uses, the next
-one takes its place. So it has to be readable by any Python."""
+The launcher starts it by the first interpreter. Where that is too old, or lacks a module that the command uses, the
+next one takes its place. So it has to be readable by any Python."""
 import os
 import sys
 
@@ -26,7 +26,8 @@ def main():
         rest = interpreters[1:]
         os.execv(rest[0], [rest[0], os.path.abspath(__file__), package, str(len(rest))] + rest + words)
     if missing == ["Python 3.9"]:
-        sys.exit("ccp %s: it needs Python 3.9 or later: apt-get install python3, or name one by CCP_PYTHON=PATH" % words[0])
+        expected = "Python 3.9 or later: apt-get install python3, or name one by CCP_PYTHON=PATH"
+        sys.exit("ccp %s: it needs %s" % (words[0], expected))
     from ccp_tools.cli import main as run_command, missing_text
 
     if missing:
