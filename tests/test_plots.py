@@ -81,6 +81,7 @@ BEGINNINGS = {".svg": b"<?xml", ".png": b"\x89PNG", ".pdf": b"%PDF", ".eps": b"%
 @pytest.fixture
 def files(tmp_path: Path):
     made = {"scenario": json.dumps(SCENARIO), "flows": FLOWS, "acks": ACKS, "metrics": json.dumps(METRICS)}
+    made["page.html"] = "<p>\n<td>a, b\n"
     for name, text in made.items():
         (tmp_path / name).write_text(text)
     return {**{name: str(tmp_path / name) for name in made}, "table": str(EXAMPLES / "campaign.out")}
@@ -183,6 +184,7 @@ def test_a_line_breaks_where_reports_were_held_and_in_a_gap():
         ("bars --size 9 {metrics} plot.svg", 2, "WxH in points"),
         ("bars --size 90x20 {metrics} plot.svg", 1, "too small"),
         ("bars {acks} plot.svg", 1, "isn't what `ccp metrics` writes"),
+        ("bars page.html plot.svg", 1, "page.html: this isn't what `ccp metrics` writes: it is no JSON and no CSV"),
         ("bars /nowhere plot.svg", 1, "/nowhere: No such file"),
         ("flows {acks} plot.svg", 1, "no text of `timeline`"),
         ("flows --flows 7 {flows} plot.svg", 1, "no flow 7"),
