@@ -252,7 +252,7 @@ def test_what_is_refused(program, tmp_path, words, status, error):
 
 
 def test_a_trace_that_is_given_twice_is_named():
-    assert compare.command.twice([(None, "a"), ("b", "a"), (None, "c")]) == ["a is given 2 times"]
+    assert compare.twice([(None, "a"), ("b", "a"), (None, "c")]) == ["a is given 2 times"]
 
 
 def test_an_option_beside_the_file_replaces_its_alternative(tmp_path):

@@ -81,7 +81,7 @@ BEGINNINGS = {".svg": b"<?xml", ".png": b"\x89PNG", ".pdf": b"%PDF", ".eps": b"%
 @pytest.fixture
 def files(tmp_path: Path):
     made = {"scenario": json.dumps(SCENARIO), "flows": FLOWS, "acks": ACKS, "metrics": json.dumps(METRICS)}
-    made["page.html"] = "<p>\n<td>a, b\n"
+    made["page.html"] = "<p>\n<td>a\n<td>a, b\n"
     for name, text in made.items():
         (tmp_path / name).write_text(text)
     return {**{name: str(tmp_path / name) for name in made}, "table": str(EXAMPLES / "campaign.out")}
@@ -147,7 +147,7 @@ def test_axes_of_a_scatter():
     ]
     panel = plots.scatter(plots.points_of(pd.DataFrame(rows)))[0].axes[0]
     assert panel.xaxis_inverted() and panel.get_xscale() == "log" and panel.get_ylim()[0] > 0
-    assert sum(not line.get_clip_on() for line in panel.lines) == 2  # the strokes
+    assert sum(not line.get_clip_on() for line in panel.lines) == 1  # the strokes
     rows[1]["queueing_p95_ms"] = 4.0
     panel = plots.scatter(plots.points_of(pd.DataFrame(rows)))[0].axes[0]
     assert panel.get_xscale() == "linear" and panel.get_xlim()[1] == 0

@@ -190,8 +190,8 @@ def from_zero(panel: Axes, name: str, values: np.ndarray, most: float | None = N
 
 
 def mark_cut(panel: Axes) -> None:
-    """Two strokes at the foot of a value axis that doesn't begin at 0. Their width is in points, so that they end before
-    the numbers of the axis."""
+    """Two strokes at the foot of a value axis that doesn't begin at 0. Their width is in points, so that they end
+    before the numbers of the axis."""
     stroke = dict(marker=[(-1, -0.7), (1, 0.7)], markersize=8, markeredgewidth=1, color="black", linestyle="")
     panel.plot([0, 0], [0.025, 0.055], transform=panel.transAxes, clip_on=False, **stroke)
 
