@@ -234,7 +234,7 @@ def test_no_sender_ends_before_the_span():
         (["{trace}", "--senders", "reno"], 2, "--out DIR is expected"),
         (["{trace}", "--senders", "bbr", "--out", "{out}"], 2, "bbr is no sender"),
         (["{trace}", "--senders", "reno,", "--out", "{out}"], 2, "before and after each comma"),
-        (["{trace}", "--senders", "reno", "--out", "{trace}"], 1, "fixed.trace: "),
+        (["{trace}", "--senders", "reno", "--out", "{trace}"], 1, "is a file, and --out is a folder"),
         (["/nowhere", "--senders", "reno", "--out", "{out}"], 1, "/nowhere: No such file"),
         (["{trace}", "--senders", "reno", "--queue", "0", "--out", "{out}"], 2, "--queue: 0"),
         (["{trace}", "--senders", "reno", "--seconds", "600", "--out", "{out}"], 1, "--seconds 65."),
@@ -249,6 +249,10 @@ def test_what_is_refused(program, tmp_path, words, status, error):
     places = {"trace": TRACES[0], "out": tmp_path / "out"}
     made = command("compare", *(word.format(**places) for word in words))
     assert made.status == status and error in made.errors and "Traceback" not in made.errors, made.errors
+
+
+def test_a_trace_that_is_given_twice_is_named():
+    assert compare.twice([(None, "a"), ("b", "a"), (None, "c")]) == ["a is given 2 times"]
 
 
 def test_an_option_beside_the_file_replaces_its_alternative(tmp_path):

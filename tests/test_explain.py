@@ -316,6 +316,9 @@ def test_a_sum_of_a_name_that_begins_as_infinity() -> None:
     assert len(texts_of(program % "(:= Report.least (if Flow.was_timeout 5)) ")) == 1
     before = "(when true (:= Report.least (min Report.least 5)) (fallthrough))\n(when true"
     assert texts_of((program % "").replace("(when true", before)) == []
+    under = before.replace("true", "(> Cwnd 9)", 1).replace("\n(when true", "\n(when %s")
+    assert texts_of((program % "").replace("(when true", under % "(&& (== mss 1) (> Cwnd  9))")) == []
+    assert len(texts_of((program % "").replace("(when true", under % "(|| (== mss 1) (> Cwnd 9))"))) == 1
     blended = "(def (Report (mean +infinity)))\n(when true (:= Report.mean (ewma 8 Cwnd)) (:= Cwnd 1) (report))"
     assert "`ewma` multiplies it" in texts_of(blended)[0]
     assert texts_of((program % "").replace("(+ Report.least 1)", "(+ Report.least 0)")) == []
@@ -347,6 +350,7 @@ def test_no_report_and_no_window() -> None:
         EXAMPLES / "delay.portus",
         EXAMPLES / "early.portus",
         *sorted(EXAMPLES.glob("*_[cs][as].portus")),
+        *sorted((REPOSITORY / "src/ccp_tools/like_linux").glob("*.portus")),
     ],
     ids=lambda path: path.stem,
 )

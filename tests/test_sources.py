@@ -319,7 +319,7 @@ def test_what_a_file_is_is_named(tmp_path: Path) -> None:
         b"\0" * 24: "binary data",
         b"\x28\xb5\x2f\xfd...": "packed by zstd",
         b"PK\x03\x04...": "a zip archive",
-        b"\x7fELF\x02\x01": "a program",
+        b"\x7fELF\x02\x01": "a compiled program",
         b"1\n2\n3\xe9\n": ":3: the byte 0xE9 isn't UTF-8",
         b"": "no time in it",
         b"\n\n": "no time in it",

@@ -589,6 +589,8 @@ def read_figures(path: str) -> Tuple[pd.DataFrame, bool]:
         if text.lstrip().startswith("{"):
             return frame_of_json(json.loads(text))
         frame = pd.read_csv(io.StringIO(text))
+    except pd.errors.ParserError:
+        raise CcpError("%s: this isn't what `ccp metrics` writes: it is no JSON and no CSV" % name_of(path)) from None
     except (ValueError, KeyError, TypeError, AttributeError) as error:
         raise CcpError("%s: this isn't what `ccp metrics` writes: %s" % (name_of(path), error)) from None
     is_grouped = "n" in frame and any(str(name).endswith("_ci95") for name in frame)
@@ -745,7 +747,8 @@ def paths_of(arguments: argparse.Namespace) -> List[str]:
             warn("--%s %s is now %s alone, without an option" % (old, path, path))
             paths.append(path)
     if not paths:
-        raise UsageError("a text of campaign, shared, timeline or acks is expected after the scenario")
+        text = "a text of campaign, shared, timeline or acks is expected after the scenario"
+        raise UsageError("%s is the only file: %s" % (name_of(arguments.scenario), text))
     if [arguments.scenario, *paths].count("-") > 1:
         raise UsageError("only one of the files is standard input")
     return paths

@@ -50,7 +50,7 @@ BINARIES = [
     (b"\x04\x22\x4d\x18", "packed by lz4; `lz4 -d FILE` unpacks it"),
     (b"PK\x03\x04", "a zip archive; `unzip FILE` unpacks it"),
     (b"7z\xbc\xaf\x27\x1c", "a 7z archive; `7z x FILE` unpacks it"),
-    (b"\x7fELF", "a program"),
+    (b"\x7fELF", "a compiled program"),
     (b"%PDF", "a PDF"),
     (b"\x89PNG", "a PNG picture"),
     (b"PAR1", "a Parquet file; write it as CSV first, as pandas does"),

@@ -5,6 +5,7 @@
 # are counted, except where what is typed is the input, and in `feed`, whose user answers.
 run_beside() {
     local input errors output child counter='' filter='' interrupted='' begun=$SECONDS
+    if [ -t 2 ]; then name_ignored; fi
     if [ ${#files[@]} -gt 1 ]; then
         exec {input}< <(input_of_files)
     elif [ "${files[0]--}" != - ]; then
@@ -38,6 +39,15 @@ run_beside() {
     trap - INT TERM HUP
     IFS= read -r -d '' error_line <&"$errors"
     print_errors
+}
+
+# Names the options that the mode ignores, as the program does.
+name_ignored() {
+    local option
+    for option in "${options[@]}"; do
+        option=${option%%=*}
+        if ! uses_option "$mode" "${option#--}"; then printf 'ccp: warning: %s ignores %s\n' "$mode" "$option" >&2; fi
+    done
 }
 
 # Waits for a substitution, which may not be the last one.

@@ -2,7 +2,7 @@
 from __future__ import annotations
 
 from dataclasses import dataclass, field
-from typing import Dict, Iterator, List, Optional, Sequence, Set
+from typing import Dict, Iterator, List, Optional, Sequence, Set, Tuple
 
 from ..reference.language import MEANINGS, MOST
 from ..reference.syntax import CONSTANTS, OPERATORS, RESERVED, WRITTEN, Node, Program
@@ -130,10 +130,13 @@ class Watch:
 
     def _infinities(self) -> None:
         """Sums and products of `+infinity`, which fault. A name that is declared `+infinity` isn't so any more once
-        every acknowledgement has assigned it before."""
+        every acknowledgement has assigned it before, or each one that meets the condition of this block."""
         settled: Set[str] = set()
+        under: List[Tuple[str, Set[str]]] = []
         for block in self.reached:
-            local_settled = set(settled)
+            # what an earlier block assigned holds where its whole condition is a part of this one's
+            parts = {self._text(part) for part in conjuncts(block.parts[1])}
+            local_settled = settled.union(*(names for condition, names in under if condition in parts))
             self._infinite_in(block.parts[1], local_settled)
             for command in block.parts[2:]:
                 if command.head() not in (":=", "bind") or len(command.parts) != 3:
@@ -142,8 +145,13 @@ class Watch:
                 self._infinite_blend(command, local_settled)
                 if command.parts[2].head() not in ("if", "!if", "ewma"):
                     local_settled.add(command.parts[1].text)
+            under.append((self._text(block.parts[1]), local_settled))
             if constant_of(block.parts[1]) not in (None, 0):
                 settled = local_settled
+
+    def _text(self, node: Node) -> str:
+        """A node as it is written, with one blank between words."""
+        return "(%s)" % " ".join(map(self._text, node.parts)) if node.is_list else node.text
 
     def _is_infinite(self, node: Node, settled: Set[str]) -> bool:
         if node.is_list:
@@ -251,6 +259,12 @@ def leaves_of(node: Node) -> Iterator[Node]:
         yield node
     for part in node.parts[1:]:
         yield from leaves_of(part)
+
+
+def conjuncts(node: Node) -> List[Node]:
+    """A condition and its parts that `&&` joins."""
+    inner = node.parts[1:] if OPERATORS.get(node.head()) == "and" else []
+    return [node, *(one for part in inner for one in conjuncts(part))]
 
 
 def constant_of(node: Node) -> Optional[int]:
