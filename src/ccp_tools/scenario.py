@@ -134,6 +134,7 @@ class Steps:
 
     @property
     def label(self) -> str:
+        """The names of the programs, with dots between."""
         return ".".join(self.steps)
 
 

@@ -4,6 +4,7 @@ from __future__ import annotations
 
 import argparse
 import base64
+import gc
 import hashlib
 import multiprocessing
 import platform
@@ -102,7 +103,9 @@ def in_processes(work: Callable[[int], Any], count: int) -> List[Any]:
     if processors < 2 or "fork" not in multiprocessing.get_all_start_methods():
         return [work(at) for at in range(count)]
     FORKED["work"] = work
-    with multiprocessing.get_context("fork").Pool(processors) as pool:
+    # the processes end soon, and looking for garbage would copy the memory that they share
+    gc.freeze()
+    with multiprocessing.get_context("fork").Pool(processors, initializer=gc.disable) as pool:
         return pool.map(forked, range(count), chunksize=1)
 
 
@@ -111,6 +114,7 @@ FORKED: Dict[str, Callable[[int], Any]] = {}
 
 
 def forked(at: int) -> Any:
+    """What the work of FORKED gives for a number."""
     return FORKED["work"](at)
 
 
@@ -204,6 +208,7 @@ def rows_of(frame: pd.DataFrame, by: Sequence[str], groups: pd.DataFrame | None)
 
 
 def named(row: Mapping[str, Any], by: Sequence[str]) -> Dict[str, Any]:
+    """The columns `by` of a row, with none for what has no value."""
     return {name: "none" if row.get(name) is None else row[name] for name in by}
 
 
@@ -308,9 +313,11 @@ class Page:
 
     @property
     def rows(self) -> List[Row]:
+        """The rows of the table: the simulated senders, then the real ones."""
         return [*rows_of(self.frame, self.by, self.groups), *self.real.rows]
 
     def summary(self) -> str:
+        """The table as text, with a note on the losses of slow start."""
         notes = slow_start.note_of(*marks_of(self.frame))
         return summary(self.rows, self.by) + "".join("lost%%: %s\n" % text for text in notes)
 
@@ -392,6 +399,7 @@ class Page:
         return ": ".join([*([", ".join(asked)] if asked else []), values_of(self.frame["queue"])])
 
     def cells(self, rows: Sequence[Row], row: Row) -> Dict[str, Any]:
+        """A row as the template shows it: each figure as text and number, and whether it is the best of its rows."""
         cells = [
             {"text": text_of(name, row.values[name]), "value": row.values[name][0], "best": best_of(rows, row, name)}
             for name in TABLE
@@ -399,6 +407,8 @@ class Page:
         return {"names": list(row.by.items()), "cells": cells, "doubts": row.doubts}
 
     def traces(self) -> List[Dict[str, Any]]:
+        """Each trace of the comparison: its mean rate in Mbit/s with packets of 1,500 bytes, its length in seconds, its
+        longest gap in milliseconds, and its SHA-256."""
         made = []
         for name, text in self.scenario["traces"].items():
             trace = Trace(trace_times(text, name))
@@ -457,6 +467,7 @@ def values_of(column: pd.Series) -> str:
 
 
 def sha256(text: str) -> str:
+    """The SHA-256 of a text in UTF-8, as hexadecimal digits."""
     return hashlib.sha256(text.encode("utf-8", "surrogateescape")).hexdigest()
 
 
@@ -480,6 +491,7 @@ def revision() -> str:
 
 
 def versions(path: Path) -> List[Tuple[str, str]]:
+    """What made the report, as names and values: the program at a path, the sources, and the libraries."""
     known = program.identity(path)
     return [
         ("ccp, version", known.version),

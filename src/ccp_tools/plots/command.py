@@ -59,6 +59,7 @@ def add_look(parser: argparse._ActionsContainer) -> None:
 
 
 def look_of(arguments: argparse.Namespace) -> Look:
+    """The look that --size, --title and --font ask for."""
     return Look(arguments.size, arguments.title, *arguments.font)
 
 
@@ -130,6 +131,7 @@ def acks_of(path: str, numbers: Sequence[int] | None) -> List[AckFrame]:
 
 
 def check_numbers(wanted: Sequence[int] | None, known: Sequence[int], path: str) -> None:
+    """Refuses by a CcpError a flow of --flows that the file at `path` doesn't have."""
     for number in wanted or []:
         if number not in known:
             raise CcpError("%s: there is no flow %d in it" % (name_of(path), number))
@@ -147,6 +149,7 @@ def pages_of_trips(arguments: argparse.Namespace) -> List[Figure]:
 
 
 def timeline_in(path: str) -> Timeline:
+    """The timeline of a file of `timeline` or `live`. A CcpError with the file's name where it is none."""
     text = read_text(path)
     if texts.kind_of(text) != "live":
         raise CcpError("%s: this is no text of `timeline` or `live`" % name_of(path))
@@ -157,6 +160,7 @@ def timeline_in(path: str) -> Timeline:
 
 
 def pages_of_flows(arguments: argparse.Namespace) -> List[Figure]:
+    """The pages of `flows`."""
     timeline = timeline_in(arguments.text)
     check_numbers(arguments.flows, list(timeline.ends["flow"]), arguments.text)
     scenario = read_scenario(arguments.scenario) if arguments.scenario else None
@@ -184,6 +188,7 @@ def print_notes(timeline: Timeline, numbers: Sequence[int], has_acks: bool) -> N
 
 
 def note(text: str) -> None:
+    """Prints a note on standard error."""
     print("ccp plot: " + text, file=sys.stderr)
 
 
@@ -196,6 +201,7 @@ def delays_of_reports(timeline: Timeline) -> Dict[str, float]:
 
 
 def pages_of_table(arguments: argparse.Namespace) -> List[Figure]:
+    """The pages of `table`: throughput, loss, and with a timeline the mean queueing delay."""
     text = read_text(arguments.text)
     if texts.kind_of(text) != "table":
         raise CcpError("%s: this is no table of `campaign` or `shared`" % name_of(arguments.text))
@@ -247,6 +253,7 @@ def split_name(row: Mapping[str, Any]) -> Tuple[str, str] | None:
 
 
 def pages_of_shares(arguments: argparse.Namespace) -> List[Figure]:
+    """The page of `shares`, of acknowledgements or of a scenario."""
     text, look = read_text(arguments.text), look_of(arguments)
     if not text.startswith("flow "):
         return [shares_of_scenario(scenario_of(text, name_of(arguments.text)), arguments, look)]

@@ -56,6 +56,7 @@ class Look:
 
     @property
     def width(self) -> float:
+        """The width of a file in points."""
         return SIZES[self.size] if isinstance(self.size, str) else self.size[0]
 
     @property
@@ -87,6 +88,7 @@ def chunks(items: Sequence[Item], size: int) -> List[Sequence[Item]]:
 
 
 def line_look(at: int) -> Dict[str, Any]:
+    """The colour, the strokes and the mark of a sender's line, by its number from 0."""
     return dict(CYCLE[at % MOST_SENDERS])
 
 
@@ -96,16 +98,19 @@ def mark_look(at: int) -> Dict[str, Any]:
 
 
 def bar_look(at: int) -> Dict[str, Any]:
+    """The face, the edge and the hatch of a sender's bar, by its number from 0."""
     hatch, share = FILLS[at % MOST_SENDERS]
     colour = matplotlib.colors.to_rgb(line_look(at)["color"])
     return {"facecolor": [1 - share * (1 - part) for part in colour], "edgecolor": colour, "hatch": hatch}
 
 
 def line_keys(names: Sequence[str]) -> Dict[str, Any]:
+    """The handles of a legend of lines, a name each."""
     return {name: Line2D([], [], **line_look(at)) for at, name in enumerate(names)}
 
 
 def link_key() -> Patch:
+    """The handle of the link's capacity in a legend."""
     return Patch(facecolor=GREY, edgecolor="#AAAAAA")
 
 
