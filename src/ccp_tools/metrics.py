@@ -51,7 +51,7 @@ import pandas as pd
 from . import orders, shares, slow_start, texts
 from .arguments import add_ccp, list_of, warn, whole
 from .errors import BadText, CcpError, UsageError
-from .files import name_of, reason_of
+from .files import MOST_BYTES, checked_length, name_of, reason_of
 from .frames import AckFrame, Timeline, acks_in, joined, timeline_of
 from .scenario_files import read_scenario
 from .shares import jain
@@ -364,10 +364,13 @@ def figures(
         add_timeline(found, cases, rows, timeline, [begun(one, case, run) for one, case in zip(windows, cases)])
     for made, case, row in zip(found, cases, rows):
         made["doubts"] = "; ".join(doubts_of(case, made, row, timeline, own_of(case)["sender"] in answered))
-    made_frame = pd.DataFrame(
-        [{**columns, **more} for columns, more in zip(own, found)], columns=[*names, *METRICS, "doubts"]
-    )
-    return made_frame.astype({name: "Int64" for name in COUNTS}).astype({name: "float64" for name in FIGURES})
+    return frame_of_rows([{**columns, **more} for columns, more in zip(own, found)], names)
+
+
+def frame_of_rows(rows: Sequence[Mapping[str, Any]], names: Sequence[str]) -> pd.DataFrame:
+    """The frame of cases: the scenario's columns, METRICS and `doubts`, with counts as Int64 and figures as float64."""
+    made = pd.DataFrame(rows, columns=[*names, *METRICS, "doubts"])
+    return made.astype({name: "Int64" for name in COUNTS}).astype({name: "float64" for name in FIGURES})
 
 
 def figures_of_orders(
@@ -743,7 +746,8 @@ def read_given(paths: Sequence[str]) -> Given:
             if name == "acks":
                 given.acks = list(acks_in(whole_file))  # type: ignore[arg-type]
             else:
-                text = whole_file.read().decode("utf-8", "surrogateescape")
+                data = checked_length(whole_file.read(MOST_BYTES + 1), path)
+                text = data.decode("utf-8", "surrogateescape")
                 setattr(given, name, texts.read_table(text) if name == "table" else timeline_of(texts.flows_in(text)))
             given.add_link(whole_file.end.decode("utf-8", "surrogateescape"), path)
     return given

@@ -128,48 +128,54 @@ def draw(
     forms: Sequence[str] = (".svg",),
 ) -> List[Plot]:
     """Draws the plots of a comparison, each as SVG and in the other forms."""
-    frame, shown = results.figures, shown_cases(scenario)
     look = Look(look.size, "", look.font, look.font_points)
+    until = {name: window.until_us and window.until_us / 1e6 for name, window in windows.items()}
+    jobs = [
+        *jobs_of_figures(results.figures, look),
+        *jobs_of_flows(scenario, results, look, until),
+        *shared.jobs_of(sharings, scenario, look),
+    ]
+    return drawn_all(jobs, folder, look, forms)
+
+
+def jobs_of_figures(frame: pd.DataFrame, look: Look) -> List[Job]:
+    """The plots of the figures: bars, scatter, and of several traces all of them together."""
     points = plots.points_of(frame)
     over = ", means over the seeds with 95 % intervals" if frame["seed"].nunique() > 1 else ""
     sigma = " An ellipse is one standard deviation over the seeds." if over else ""
-    named = plots.named_flows(
-        [results.acks[number] for some in shown.values() for number in some if number in results.acks], scenario
-    )
-    jobs: List[Job] = []
-
-    def add(name: str, head: str, what: str, work: Callable[[], List[Figure]]) -> None:
-        jobs.append((name, head, what, work))
-
     bars = ["throughput_mbps", "loss_rate", "queueing_p95_ms"]
     what = "Throughput with the link's capacity in grey, lost packets, and the 95th percentile of the queueing delay%s."
-    add("bars", "Throughput, loss and delay", what % over, lambda: plots.bars(points, bars, look))
+    made: List[Job] = [("bars", "Throughput, loss and delay", what % over, lambda: plots.bars(points, bars, look))]
     what = "Up and right is better: the delay axis is reversed%s.%s Two strokes mark an axis that doesn't begin at 0."
-    add("scatter", "Throughput over delay", what % (over, sigma), lambda: plots.scatter(points, look=look))
+    made.append(("scatter", "Throughput over delay", what % (over, sigma), lambda: plots.scatter(points, look=look)))
     if frame["trace"].nunique() > 1:
         what = (
             "The mean of each sender over all traces: the share of the capacity that it used, and its delay. An "
             "ellipse is one standard deviation over the traces."
         )
-        add("overall", "All traces together", what, lambda: plots.overall(frame, look))
-    until = {name: window.until_us and window.until_us / 1e6 for name, window in windows.items()}
+        made.append(("overall", "All traces together", what, lambda: plots.overall(frame, look)))
+    return made
+
+
+def jobs_of_flows(scenario: Scenario, results: Results, look: Look, until: Mapping[str, float | None]) -> List[Job]:
+    """The plots of the flows that are shown: round-trip times, and what happened over time on each trace. `until`
+    has the end of each trace's span in seconds, or None."""
+    shown = {
+        trace: {number: results.acks[number] for number in numbers if number in results.acks}
+        for trace, numbers in shown_cases(scenario).items()
+    }
+    named = plots.named_flows([flow for acks in shown.values() for flow in acks.values()], scenario)
     what = (
         "Each packet's round-trip time when it was acknowledged, and beside it the share of packets up to each time. "
         "The axis is logarithmic where a few packets waited far longer than the rest."
     )
-    add(
-        "delay",
-        "Round-trip times",
-        what,
-        lambda: plots.delay(named, look, max((value or 0 for value in until.values()), default=0) or None),
-    )
+    end = max((value or 0 for value in until.values()), default=0) or None
+    made: List[Job] = [("delay", "Round-trip times", what, lambda: plots.delay(named, look, end))]
     timeline = joined(results.timelines)
-    for trace, numbers in shown.items():
-        acks = {number: results.acks[number] for number in numbers if number in results.acks}
-        work = partial(plots.flows, timeline, numbers, scenario, acks, look, until[trace])
-        add("flows-" + trace, "Over time: " + trace, OVER_TIME, work)
-    jobs += shared.jobs_of(sharings, scenario, look)
-    return drawn_all(jobs, folder, look, forms)
+    for trace, numbers in shown_cases(scenario).items():
+        work = partial(plots.flows, timeline, numbers, scenario, shown[trace], look, until[trace])
+        made.append(("flows-" + trace, "Over time: " + trace, OVER_TIME, work))
+    return made
 
 
 OVER_TIME = (

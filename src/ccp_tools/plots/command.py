@@ -5,6 +5,7 @@ from __future__ import annotations
 import argparse
 import re
 import sys
+from functools import partial
 from typing import Any, Callable, Dict, List, Mapping, Sequence, Tuple
 
 import numpy as np
@@ -63,26 +64,27 @@ def look_of(arguments: argparse.Namespace) -> Look:
     return Look(arguments.size, arguments.title, *arguments.font)
 
 
+def add_kind(kinds: Any, name: str, what: str, text: str, metavar: str) -> Callable[..., Any]:
+    """Adds a kind of plot with the arguments that several kinds have, and returns its add_argument."""
+    made = kinds.add_parser(name, help=what, description=what)
+    add_look(made)
+    made.add_argument("text", metavar=metavar, help=text)
+    made.add_argument("plots", nargs="+", metavar="FILE", help="the files, which end with .svg, .png, .pdf or .eps")
+    if name in ("flows", "delay", "cdf"):
+        made.add_argument("--until", type=metrics.seconds, metavar="S", help="only the first S seconds (all)")
+        numbers = list_of(whole(0, 10**6))
+        made.add_argument("--flows", type=numbers, metavar="LIST", help="numbers of flows, as 0,2 (all)")
+    if name == "flows":
+        made.add_argument("--acks-file", metavar="ACKS", help="what `acks` printed of the same scenario")
+        deprecated(made, "--acks", "--acks-file")
+    if name == "shares":
+        add_ccp(made)
+    return made.add_argument
+
+
 def add_arguments(parser: argparse.ArgumentParser) -> None:
     """Adds the kinds of plots with their arguments."""
-    kinds = parser.add_subparsers(dest="what", required=True, metavar="|".join(PAGES))
-
-    def kind(name: str, what: str, text: str, metavar: str) -> Callable[..., Any]:
-        made = kinds.add_parser(name, help=what, description=what)
-        add_look(made)
-        made.add_argument("text", metavar=metavar, help=text)
-        made.add_argument("plots", nargs="+", metavar="FILE", help="the files, which end with .svg, .png, .pdf or .eps")
-        if name in ("flows", "delay", "cdf"):
-            made.add_argument("--until", type=metrics.seconds, metavar="S", help="only the first S seconds (all)")
-            numbers = list_of(whole(0, 10**6))
-            made.add_argument("--flows", type=numbers, metavar="LIST", help="numbers of flows, as 0,2 (all)")
-        if name == "flows":
-            made.add_argument("--acks-file", metavar="ACKS", help="what `acks` printed of the same scenario")
-            deprecated(made, "--acks", "--acks-file")
-        if name == "shares":
-            add_ccp(made)
-        return made.add_argument
-
+    kind = partial(add_kind, parser.add_subparsers(dest="what", required=True, metavar="|".join(PAGES)))
     figures, shown = "what `ccp metrics` wrote", ["throughput_mbps", "loss_rate", "queueing_p95_ms"]
     add = kind("bars", "metrics of cases as bars, with intervals over seeds", figures, "METRICS")
     each = "a panel each (%s)" % ",".join(shown)
