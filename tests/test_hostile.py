@@ -2,21 +2,28 @@
 from __future__ import annotations
 
 import os
+import shutil
 import subprocess
 import sys
 from pathlib import Path
-from typing import List
+from typing import Dict, List
 
 import pytest
-from support import EXAMPLES, REPOSITORY, command
+from support import EXAMPLES, REPOSITORY, ccp, command
 
 from ccp_tools.cli import main
+from ccp_tools.errors import CcpError
+from ccp_tools.files import read_bytes
 from ccp_tools.tables import COMMANDS
 
+FIXED = str(EXAMPLES / "traces" / "fixed.trace")
 # the arguments of a command that reads FILE; OUT is a folder that may be written
 ARGUMENTS = {
-    "compare": [["FILE", "--senders", "reno", "--seconds", "1", "--out", "OUT"]],
-    "scenario": [["FILE"], ["--senders", "mine=FILE", str(EXAMPLES / "traces" / "fixed.trace")]],
+    "compare": [
+        ["FILE", "--senders", "reno", "--seconds", "1", "--out", "OUT"],
+        [FIXED, "--senders", "reno", "--seconds", "1", "--measured", "FILE", "--out", "OUT"],
+    ],
+    "scenario": [["FILE"], ["--senders", "mine=FILE", FIXED]],
     "trace": [["info", "FILE"]],
     "metrics": [["FILE", "FILE"]],
     "plot": [[kind, "FILE", "OUT/x.svg"] for kind in ("table", "bars", "flows", "cdf", "shares")],
@@ -67,7 +74,7 @@ HOSTILE = [
     (name, words, content)
     for name, words in CASES
     for content in CONTENTS
-    if (name, content) != ("compare", "one number")
+    if (name, words[0], content) != ("compare", "FILE", "one number")
 ]
 
 
@@ -118,6 +125,55 @@ def test_an_output_that_nobody_reads(name: str) -> None:
     ran = subprocess.run(words, stdout=writing, stderr=subprocess.PIPE, env=env, stdin=subprocess.DEVNULL)
     os.close(writing)
     assert (ran.returncode, ran.stderr) == (141, b"")
+
+
+# what each command prints of real work; SCENARIO, TABLE and TIMELINE are files of one small run
+WORK = {
+    "compare": [FIXED, "--senders", "reno", "--seconds", "0.2", "--quiet", "--out", "OUT"],
+    "scenario": [FIXED, "--senders", "reno"],
+    "trace": ["info", FIXED],
+    "metrics": ["SCENARIO", "TABLE", "TIMELINE"],
+    "explain": ["SCENARIO"],
+    "table": ["TABLE"],
+    "verify": ["SCENARIO", "TIMELINE"],
+    "over": ["--quiet", "SCENARIO"],
+}
+
+
+@pytest.fixture(scope="module")
+def run_of(program: Path, tmp_path_factory: pytest.TempPathFactory) -> Dict[str, Path]:
+    """The files of a run of one case."""
+    folder = tmp_path_factory.mktemp("work")
+    files = {name: folder / name.lower() for name in ("SCENARIO", "TABLE", "TIMELINE")}
+    files["SCENARIO"].write_text(command("scenario", "--senders", "reno", "--acks", "200", FIXED).output)
+    for name, mode in (("TABLE", "campaign"), ("TIMELINE", "timeline")):
+        files[name].write_text(ccp(mode, given=files["SCENARIO"].read_text()).output)
+    return files
+
+
+def test_each_command_that_prints_has_work() -> None:
+    assert set(WORK) == set(COMMANDS) - {"plot"}
+
+
+@pytest.mark.parametrize("name", WORK)
+def test_real_work_whose_output_nobody_reads(run_of: Dict[str, Path], tmp_path: Path, name: str) -> None:
+    if name == "over" and not shutil.which("parallel"):
+        pytest.skip("parallel isn't installed")
+    words = [str(run_of.get(word, word)).replace("OUT", str(tmp_path / "out")) for word in WORK[name]]
+    assert command(name, *words).status == 0
+    reading, writing = os.pipe()
+    os.close(reading)
+    env = {**os.environ, "PYTHONPATH": str(REPOSITORY / "src")}
+    started = [sys.executable, "-m", "ccp_tools", name, *words]
+    ran = subprocess.run(started, stdout=writing, stderr=subprocess.PIPE, env=env, stdin=subprocess.DEVNULL)
+    os.close(writing)
+    assert (ran.returncode, ran.stderr) == (141, b"")
+
+
+def test_a_file_without_an_end() -> None:
+    with pytest.raises(CcpError, match="/dev/zero: it has more than 2000000 bytes"):
+        read_bytes("/dev/zero", 2_000_000)
+    assert read_bytes("/dev/null") == b""
 
 
 def test_closed_streams() -> None:

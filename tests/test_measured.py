@@ -69,6 +69,10 @@ def test_the_trace_of_a_log(link: Path) -> None:
     windows = {"other": Window(), "link": Window(0, 100_000)}
     found = measured.read([("real", str(LOG))], {"traces": {"other": other, "link": times}}, windows)
     assert found[0].trace == "link" and found[0].found.packets == 45
+    assert found[0].doubts() == ""
+    longer = measured.read([("real", str(LOG))], {"traces": {"link": times}}, {"link": Window(0, 15_000_000)})
+    wanted = "its log has 0.484 s of packets, and the simulated senders are measured over 15 s"
+    assert longer[0].doubts() == wanted == measured.rows_of(longer, ["trace", "sender"])[0].doubts
     two = {"traces": {"other": other, "another": "5\n"}}
     assert measured.read([("real", str(LOG))], two, windows)[0].trace == ""
     # a tunnel's log has delays of the whole way, and no chances: it belongs to the only trace

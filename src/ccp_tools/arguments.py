@@ -30,6 +30,7 @@ class Parser(argparse.ArgumentParser):
         self.add_argument("--quiet", action="store_true", default=argparse.SUPPRESS, help=quiet)
 
     def error(self, message: str) -> NoReturn:
+        """Ends with a UsageError of one line, which the command prints with status 2."""
         raise UsageError(message.replace("\n", " "))
 
 

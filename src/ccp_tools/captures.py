@@ -242,7 +242,8 @@ def iperf_spans(path: PathLike, packet: int) -> List[Span]:
         ends = re.fullmatch(r"([0-9]+\.?[0-9]*)-([0-9]+\.?[0-9]*)", cells[6]) if len(cells) > 7 else None
         if not ends:
             raise CcpError(
-                "%s: no interval of `iperf -y C`%s: %s" % (place, hint_of(text, "iperf"), ",".join(cells)[:60])
+                "%s: no interval of `iperf -y C`%s: %s"
+                % (place, hint_of(text, "the CSV of iperf"), ",".join(cells)[:60])
             )
         begin, end = 1000 * float(ends.group(1)), 1000 * float(ends.group(2))
         if not found or abs(begin - found[-1].end) < 1e-6:

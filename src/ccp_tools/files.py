@@ -12,6 +12,10 @@ from .errors import CcpError
 
 PathLike = Union[str, Path]
 
+# a file that is read whole has at most so many bytes: with a longer one, or one without an end, memory would run out
+MOST_BYTES = 1 << 30
+PIECE = 1 << 20
+
 # what files begin with that people take for texts
 BEGINNINGS = [
     (codecs.BOM_UTF16_LE, "UTF-16 text"),
@@ -43,16 +47,25 @@ def what_is(data: bytes) -> str | None:
     return "binary data" if b"\0" in data[:4096] else None
 
 
-def read_bytes(path: PathLike) -> bytes:
-    """The bytes of a file. One that can't be read, as a folder, is a CcpError."""
+def read_bytes(path: PathLike, most: int = MOST_BYTES) -> bytes:
+    """The bytes of a file. One that can't be read, as a folder, or that has more than `most` bytes is a CcpError."""
+    file = open_bytes(path)
     try:
-        if str(path) == "-":
-            return sys.stdin.buffer.read()
-        return Path(path).read_bytes()
+        data = file.read(PIECE)
+        # a short file takes no more memory than it needs
+        return checked_length(data + file.read(most) if len(data) == PIECE else data, path, most)
     except OSError as error:
         raise CcpError("%s: %s" % (name_of(path), reason_of(error))) from None
-    except ValueError:  # a path with a byte 0
-        raise CcpError("%r: no name of a file" % str(path)) from None
+    finally:
+        if str(path) != "-":
+            file.close()
+
+
+def checked_length(data: bytes, path: PathLike, most: int = MOST_BYTES) -> bytes:
+    """The bytes of a file. More than `most` are a CcpError."""
+    if len(data) > most:
+        raise CcpError("%s: it has more than %d bytes, the most that are read" % (name_of(path), most))
+    return data
 
 
 def reason_of(error: OSError) -> str:

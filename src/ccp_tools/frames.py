@@ -157,6 +157,7 @@ def pieces_of(source: Source) -> Iterator[bytes]:
 
 
 def as_bytes(text: str | bytes) -> bytes:
+    """A text as bytes of UTF-8; bytes stay as they are."""
     return text.encode("utf-8", "surrogateescape") if isinstance(text, str) else text
 
 
@@ -283,6 +284,7 @@ END = "acks reports held faults epochs first stopped cwnd rate"
 
 
 def plain(of: Any, names: str) -> Dict[str, Any]:
+    """The attributes of an object whose names a text lists, separated by spaces."""
     return {name: getattr(of, name) for name in names.split()}
 
 

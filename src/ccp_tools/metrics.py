@@ -36,6 +36,7 @@ sender that you mean. docs/metrics.md defines each figure by its formula, its un
 from __future__ import annotations
 
 import argparse
+import functools
 import io
 import json
 import sys
@@ -50,7 +51,7 @@ import pandas as pd
 from . import orders, shares, slow_start, texts
 from .arguments import add_ccp, list_of, warn, whole
 from .errors import BadText, CcpError, UsageError
-from .files import name_of, reason_of
+from .files import MOST_BYTES, checked_length, name_of, reason_of
 from .frames import AckFrame, Timeline, acks_in, joined, timeline_of
 from .scenario_files import read_scenario
 from .shares import jain
@@ -158,6 +159,12 @@ def columns_of(scenario: Mapping[str, Any], path: str = "scenario") -> Tuple[Lis
 # ---- the figures
 
 
+@functools.lru_cache(maxsize=64)
+def trace_of(text: str, place: str) -> Trace:
+    """The trace of a text, which each plot of a comparison asks for anew. A CcpError at `place` where it is none."""
+    return Trace(trace_times(text, place))
+
+
 class Link:
     """What packets could use: the chances of the traces of a scenario."""
 
@@ -166,8 +173,9 @@ class Link:
         self.kept: Dict[str, Trace] = {}
 
     def trace(self, name: str) -> Trace:
+        """A trace of the scenario by its name; a CcpError where its text is none."""
         if name not in self.kept:
-            self.kept[name] = Trace(trace_times(self.scenario["traces"][name], "trace " + name))
+            self.kept[name] = trace_of(self.scenario["traces"][name], "trace " + name)
         return self.kept[name]
 
     def chances(self, name: str, until_us: int, begin_us: int = 0) -> int:
@@ -177,6 +185,7 @@ class Link:
 
 
 def divided(a: float, b: float) -> float | None:
+    """The quotient, or None where the divisor is 0."""
     return a / b if b else None
 
 
@@ -355,10 +364,13 @@ def figures(
         add_timeline(found, cases, rows, timeline, [begun(one, case, run) for one, case in zip(windows, cases)])
     for made, case, row in zip(found, cases, rows):
         made["doubts"] = "; ".join(doubts_of(case, made, row, timeline, own_of(case)["sender"] in answered))
-    made_frame = pd.DataFrame(
-        [{**columns, **more} for columns, more in zip(own, found)], columns=[*names, *METRICS, "doubts"]
-    )
-    return made_frame.astype({name: "Int64" for name in COUNTS}).astype({name: "float64" for name in FIGURES})
+    return frame_of_rows([{**columns, **more} for columns, more in zip(own, found)], names)
+
+
+def frame_of_rows(rows: Sequence[Mapping[str, Any]], names: Sequence[str]) -> pd.DataFrame:
+    """The frame of cases: the scenario's columns, METRICS and `doubts`, with counts as Int64 and figures as float64."""
+    made = pd.DataFrame(rows, columns=[*names, *METRICS, "doubts"])
+    return made.astype({name: "Int64" for name in COUNTS}).astype({name: "float64" for name in FIGURES})
 
 
 def figures_of_orders(
@@ -496,6 +508,7 @@ def doubts_of(
 
 
 def counted(count: int, what: str) -> str:
+    """A number with its noun, in the plural unless it is 1."""
     return "%d %s%s" % (count, what, "" if count == 1 else "s")
 
 
@@ -600,6 +613,7 @@ def read_figures(path: str) -> Tuple[pd.DataFrame, bool]:
 
 
 def frame_of_json(made: Mapping[str, Any]) -> Tuple[pd.DataFrame, bool]:
+    """The frame of what json_text wrote, a row a case or a group, and whether the rows are groups."""
     if "groups" not in made:
         return pd.DataFrame(made["cases"]), False
     rows = []
@@ -620,6 +634,7 @@ WINDOW_HELP = (
 
 
 def add_arguments(parser: argparse.ArgumentParser) -> None:
+    """Adds the arguments of `ccp metrics`."""
     parser.add_argument("scenario", metavar="SCENARIO", help="the scenario's file")
     parser.add_argument(
         "texts",
@@ -689,6 +704,7 @@ class Continued:
         self.beginning, self.file, self.end = beginning, file, b""
 
     def read(self, size: int = -1) -> bytes:
+        """At most `size` bytes, or all where it is negative, the beginning first."""
         beginning, self.beginning = self.beginning, b""
         piece = beginning + self.file.read(size if size < 0 else max(0, size - len(beginning)))
         self.end = (self.end + piece)[-1024:]
@@ -732,7 +748,8 @@ def read_given(paths: Sequence[str]) -> Given:
             if name == "acks":
                 given.acks = list(acks_in(whole_file))  # type: ignore[arg-type]
             else:
-                text = whole_file.read().decode("utf-8", "surrogateescape")
+                data = checked_length(whole_file.read(MOST_BYTES + 1), path)
+                text = data.decode("utf-8", "surrogateescape")
                 setattr(given, name, texts.read_table(text) if name == "table" else timeline_of(texts.flows_in(text)))
             given.add_link(whole_file.end.decode("utf-8", "surrogateescape"), path)
     return given
@@ -770,6 +787,7 @@ def check_columns(option: str, found: Sequence[str], names: Sequence[str]) -> No
 
 
 def write_out(text: str, path: str | None) -> None:
+    """Writes a text to a file, or to standard output where the path is None. A CcpError where it can't be written."""
     if path is None:
         sys.stdout.write(text)
         return

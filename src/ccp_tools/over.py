@@ -116,8 +116,10 @@ def run(arguments: argparse.Namespace) -> int:
     try:
         work(arguments, folder, job)
     except BaseException as error:
-        # a refusal needs no second run; parts that are done are worth keeping after anything else
-        if folder.is_temporary and (isinstance(error, CcpError) and error.status == 3 or not folder.count_done()):
+        # a refusal needs no second run, nor does an output that nobody reads to its end, as with `| head`; parts that
+        # are done are worth keeping after anything else
+        is_over = isinstance(error, BrokenPipeError) or isinstance(error, CcpError) and error.status == 3
+        if folder.is_temporary and (is_over or not folder.count_done()):
             shutil.rmtree(folder.path, ignore_errors=True)
         elif folder.is_temporary:
             warn("the parts that are done are kept: `ccp over --resume --parts %s ..` goes on" % folder.path)

@@ -134,6 +134,7 @@ class Steps:
 
     @property
     def label(self) -> str:
+        """The names of the programs, with dots between."""
         return ".".join(self.steps)
 
 
@@ -495,9 +496,7 @@ def size_text(mode: str, made: Scenario, size: int) -> str:
 
 def add_grid(parser: argparse.ArgumentParser) -> None:
     """Adds the trace files, the senders and the options of the grid, which `grid_of` reads, as for `ccp compare`."""
-    delay, lists = LIMITS["delay_us"], "LIST"
-    add = parser.add_argument
-    add(
+    parser.add_argument(
         "traces",
         nargs="+",
         type=trace,
@@ -505,6 +504,13 @@ def add_grid(parser: argparse.ArgumentParser) -> None:
         help="a recording; there is a case or more for each",
     )
     add_senders(parser)
+    add_link(parser)
+    add_lengths(parser)
+
+
+def add_link(parser: argparse.ArgumentParser) -> None:
+    """Adds the lists of queues, delays, losses and marks of the grid."""
+    delay, lists, add = LIMITS["delay_us"], "LIST", parser.add_argument
     queue = parser.add_mutually_exclusive_group()
     what = "packets that may wait at the bottleneck, 1 to 4096, or a product of bandwidth and delay, as 100,1bdp (100)"
     queue.add_argument("--queue", type=queues, metavar=lists, help=what)
@@ -524,6 +530,11 @@ def add_grid(parser: argparse.ArgumentParser) -> None:
     )
     what = "waiting packets from which on a packet is marked, 1 to 4096, or none (none)"
     add("--mark", type=ranges(mark, whole(1, LIMITS["mark"])), metavar=lists, help=what)
+
+
+def add_lengths(parser: argparse.ArgumentParser) -> None:
+    """Adds how long a case is, and what all cases of the grid have in common."""
+    add = parser.add_argument
     add("--mss", type=whole(1, LIMITS["segment_bytes"]), metavar="BYTES", help="bytes of a segment (1448)")
     length = parser.add_mutually_exclusive_group()
     what = "acknowledgements of a case, at most 65536 (4096); --aggregate reaches further"

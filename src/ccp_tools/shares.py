@@ -59,6 +59,8 @@ def flows_seen(acks: pd.DataFrame) -> pd.DataFrame:
 
 
 def frame_of_flows(rows: Sequence[Any]) -> pd.DataFrame:
+    """A frame with the case, the delay, the start and the end of each flow, times in microseconds, by the flow's
+    number."""
     made = pd.DataFrame(rows, columns=["case", "delay_us", "start_us", "end_us"])
     return made.rename_axis("flow")
 

@@ -263,10 +263,12 @@ def report_in(line: int, words: Sequence[str], names: Sequence[str]) -> Report:
 
 
 def add_report(flow: Flow, line: int, words: Sequence[str]) -> None:
+    """Adds the report of a line `report` to its flow."""
     flow.reports.append(report_in(line, words[1:], SEEN))
 
 
 def add_ticket(flow: Flow, line: int, words: Sequence[str]) -> None:
+    """Adds the report or the fault of a line `ticket` to its flow. A BadText where it is of neither."""
     if words[2:3] not in (["report"], ["fault"]):
         raise BadText("a ticket is one of a report or of a fault", line)
     number = whole(line, "ticket", words[1])
@@ -282,11 +284,13 @@ def add_ticket(flow: Flow, line: int, words: Sequence[str]) -> None:
 
 
 def add_fault(flow: Flow, line: int, words: Sequence[str]) -> None:
+    """Adds the fault of a line `fault` to its flow."""
     epoch, ack, kind, place = named(line, words[1:], ["epoch", "ack", "kind", "at"])
     flow.faults.append(Fault(whole(line, "epoch", epoch), whole(line, "ack", ack), kind, place, line))
 
 
 def add_epoch(flow: Flow, line: int, words: Sequence[str]) -> None:
+    """Adds the epoch of a line `epoch` to its flow. A BadText where it has no number."""
     if len(words) < 2:
         raise BadText("an epoch has a number", line)
     what = "step" if words[2:3] and words[2].startswith("step=") else "program"
@@ -295,6 +299,8 @@ def add_epoch(flow: Flow, line: int, words: Sequence[str]) -> None:
 
 
 def add_entry(flow: Flow, line: int, words: Sequence[str]) -> None:
+    """Adds the step of a rollout, of a line `step`, to its flow. A BadText where it is neither installed nor
+    refused."""
     if words[2:3] not in (["installed"], ["refused"]):
         raise BadText("a step is installed or refused", line)
     at = whole(line, "at", named(line, words[3:], ["at"])[0])
@@ -303,6 +309,7 @@ def add_entry(flow: Flow, line: int, words: Sequence[str]) -> None:
 
 
 def add_end(flow: Flow, line: int, words: Sequence[str]) -> None:
+    """Sets the end of a flow, of a line `end`."""
     names = LIVE_END if words[3:4] and words[3].startswith("held=") else END
     values = dict(zip(names, named(line, words[1:], names)))
     first, _ = span_of(line, values.pop("tail"), "tail")

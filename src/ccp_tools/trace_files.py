@@ -15,14 +15,11 @@ import io
 import json
 import lzma
 import re
-import sys
 import zlib
 from typing import Any, Callable
 
 from .errors import CcpError
-from .files import PathLike, name_of, reason_of
-
-MOST_BYTES = 2**30
+from .files import MOST_BYTES, PathLike, checked_length, name_of, read_bytes
 
 # the bytes that a packed file begins with, what opens it, and what packed it
 Opener = Callable[[io.BytesIO], Any]
@@ -64,32 +61,10 @@ BINARIES = [
 
 def read_plain(path: PathLike) -> bytes:
     """The bytes of a file, unpacked. A file that can't be read, or is packed and damaged, is a CcpError."""
-    data = read_at_most(path)
+    data = read_bytes(path, MOST_BYTES)
     for magic, opener, name in PACKED:
         if data.startswith(magic):
             return unpacked(data, opener, name, path)
-    return data
-
-
-def read_at_most(path: PathLike) -> bytes:
-    """The bytes of a file as it lies there."""
-    try:
-        if str(path) == "-":
-            data = sys.stdin.buffer.read(MOST_BYTES + 1)
-        else:
-            with open(path, "rb") as file:
-                data = file.read(MOST_BYTES + 1)
-    except OSError as error:
-        raise CcpError("%s: %s" % (name_of(path), reason_of(error))) from None
-    except ValueError:  # a path with a byte 0
-        raise CcpError("%r: no name of a file" % str(path)) from None
-    return checked_length(data, path)
-
-
-def checked_length(data: bytes, path: PathLike) -> bytes:
-    """The bytes, unless there are too many."""
-    if len(data) > MOST_BYTES:
-        raise CcpError("%s: it has more than %d bytes" % (name_of(path), MOST_BYTES))
     return data
 
 
@@ -98,7 +73,7 @@ def unpacked(data: bytes, opener: Opener, name: str, path: PathLike) -> bytes:
     try:
         with opener(io.BytesIO(data)) as file:
             plain: bytes = file.read(MOST_BYTES + 1)
-        return checked_length(plain, path)
+        return checked_length(plain, path, MOST_BYTES)
     except EOFError:
         raise CcpError("%s: it is packed by %s and cut: its end is missing" % (name_of(path), name)) from None
     except (OSError, lzma.LZMAError, zlib.error) as error:

@@ -207,6 +207,7 @@ def cleared(folder: Path) -> None:
 
 
 def write(folder: Path, name: str, text: str) -> None:
+    """Writes a text as UTF-8 to a file of a folder. A CcpError where it can't be written."""
     try:
         (folder / name).write_text(text, encoding="utf-8")
     except OSError as error:

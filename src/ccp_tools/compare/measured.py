@@ -14,15 +14,26 @@ from ..scenario_files import Scenario
 from ..traces import trace_times
 from .report import TABLE, Row
 
+# a span that differs by at most this share counts as the same: a log's begins with its first packet
+SAME_SPAN = 0.1
+
 
 @dataclass(frozen=True)
 class RealSender:
     """What a sender had on a real or emulated link. `trace` is the scenario's trace that the link followed, or "" where
-    it is none of them."""
+    it is none of them. `simulated_s` is over how many seconds the simulated senders are measured on it, or None."""
 
     name: str
     trace: str
     found: Measured
+    simulated_s: float | None = None
+
+    def doubts(self) -> str:
+        """Why its figures aren't those of the same seconds of the link, or nothing."""
+        own, other = self.found.seconds, self.simulated_s
+        if other is None or abs(own - other) <= SAME_SPAN * other:
+            return ""
+        return "its log has %.3g s of packets, and the simulated senders are measured over %.3g s" % (own, other)
 
 
 def named_log(text: str) -> Tuple[str, str]:
@@ -48,9 +59,10 @@ def read(logs: Sequence[Tuple[str, str]], scenario: Scenario, windows: Mapping[s
     for name, path in logs:
         log = read_log(path)
         trace = trace_of(times_of(log), scenario)
-        until_us = windows[trace].until_us if trace else None
-        until_s = None if until_us is None else until_us / 1e6
-        made.append(RealSender(name, trace, measured_of(log, until_s=until_s)))
+        window = windows[trace] if trace else Window()
+        until_s = None if window.until_us is None else window.until_us / 1e6
+        simulated_s = None if until_s is None else until_s - window.begin_us / 1e6
+        made.append(RealSender(name, trace, measured_of(log, until_s=until_s), simulated_s))
     return made
 
 
@@ -72,7 +84,7 @@ def rows_of(senders: Sequence[RealSender], by: Sequence[str]) -> List[Row]:
         figures: Dict[str, float | None] = {**one.found.figures(), "span_s": one.found.seconds}
         place: Dict[str, Any] = {name: "none" for name in by}
         place.update(trace=(one.trace + ", measured").lstrip(", "), sender=one.name)
-        made.append(Row(place, {name: (figures.get(name), None) for name in TABLE}, ""))
+        made.append(Row(place, {name: (figures.get(name), None) for name in TABLE}, one.doubts()))
     return made
 
 

@@ -4,6 +4,7 @@ from __future__ import annotations
 
 import argparse
 import base64
+import gc
 import hashlib
 import multiprocessing
 import platform
@@ -102,7 +103,9 @@ def in_processes(work: Callable[[int], Any], count: int) -> List[Any]:
     if processors < 2 or "fork" not in multiprocessing.get_all_start_methods():
         return [work(at) for at in range(count)]
     FORKED["work"] = work
-    with multiprocessing.get_context("fork").Pool(processors) as pool:
+    # the processes end soon, and looking for garbage would copy the memory that they share
+    gc.freeze()
+    with multiprocessing.get_context("fork").Pool(processors, initializer=gc.disable) as pool:
         return pool.map(forked, range(count), chunksize=1)
 
 
@@ -111,6 +114,7 @@ FORKED: Dict[str, Callable[[int], Any]] = {}
 
 
 def forked(at: int) -> Any:
+    """What the work of FORKED gives for a number."""
     return FORKED["work"](at)
 
 
@@ -124,48 +128,54 @@ def draw(
     forms: Sequence[str] = (".svg",),
 ) -> List[Plot]:
     """Draws the plots of a comparison, each as SVG and in the other forms."""
-    frame, shown = results.figures, shown_cases(scenario)
     look = Look(look.size, "", look.font, look.font_points)
+    until = {name: window.until_us and window.until_us / 1e6 for name, window in windows.items()}
+    jobs = [
+        *jobs_of_figures(results.figures, look),
+        *jobs_of_flows(scenario, results, look, until),
+        *shared.jobs_of(sharings, scenario, look),
+    ]
+    return drawn_all(jobs, folder, look, forms)
+
+
+def jobs_of_figures(frame: pd.DataFrame, look: Look) -> List[Job]:
+    """The plots of the figures: bars, scatter, and of several traces all of them together."""
     points = plots.points_of(frame)
     over = ", means over the seeds with 95 % intervals" if frame["seed"].nunique() > 1 else ""
     sigma = " An ellipse is one standard deviation over the seeds." if over else ""
-    named = plots.named_flows(
-        [results.acks[number] for some in shown.values() for number in some if number in results.acks], scenario
-    )
-    jobs: List[Job] = []
-
-    def add(name: str, head: str, what: str, work: Callable[[], List[Figure]]) -> None:
-        jobs.append((name, head, what, work))
-
     bars = ["throughput_mbps", "loss_rate", "queueing_p95_ms"]
     what = "Throughput with the link's capacity in grey, lost packets, and the 95th percentile of the queueing delay%s."
-    add("bars", "Throughput, loss and delay", what % over, lambda: plots.bars(points, bars, look))
+    made: List[Job] = [("bars", "Throughput, loss and delay", what % over, lambda: plots.bars(points, bars, look))]
     what = "Up and right is better: the delay axis is reversed%s.%s Two strokes mark an axis that doesn't begin at 0."
-    add("scatter", "Throughput over delay", what % (over, sigma), lambda: plots.scatter(points, look=look))
+    made.append(("scatter", "Throughput over delay", what % (over, sigma), lambda: plots.scatter(points, look=look)))
     if frame["trace"].nunique() > 1:
         what = (
             "The mean of each sender over all traces: the share of the capacity that it used, and its delay. An "
             "ellipse is one standard deviation over the traces."
         )
-        add("overall", "All traces together", what, lambda: plots.overall(frame, look))
-    until = {name: window.until_us and window.until_us / 1e6 for name, window in windows.items()}
+        made.append(("overall", "All traces together", what, lambda: plots.overall(frame, look)))
+    return made
+
+
+def jobs_of_flows(scenario: Scenario, results: Results, look: Look, until: Mapping[str, float | None]) -> List[Job]:
+    """The plots of the flows that are shown: round-trip times, and what happened over time on each trace. `until`
+    has the end of each trace's span in seconds, or None."""
+    shown = {
+        trace: {number: results.acks[number] for number in numbers if number in results.acks}
+        for trace, numbers in shown_cases(scenario).items()
+    }
+    named = plots.named_flows([flow for acks in shown.values() for flow in acks.values()], scenario)
     what = (
         "Each packet's round-trip time when it was acknowledged, and beside it the share of packets up to each time. "
         "The axis is logarithmic where a few packets waited far longer than the rest."
     )
-    add(
-        "delay",
-        "Round-trip times",
-        what,
-        lambda: plots.delay(named, look, max((value or 0 for value in until.values()), default=0) or None),
-    )
+    end = max((value or 0 for value in until.values()), default=0) or None
+    made: List[Job] = [("delay", "Round-trip times", what, lambda: plots.delay(named, look, end))]
     timeline = joined(results.timelines)
-    for trace, numbers in shown.items():
-        acks = {number: results.acks[number] for number in numbers if number in results.acks}
-        work = partial(plots.flows, timeline, numbers, scenario, acks, look, until[trace])
-        add("flows-" + trace, "Over time: " + trace, OVER_TIME, work)
-    jobs += shared.jobs_of(sharings, scenario, look)
-    return drawn_all(jobs, folder, look, forms)
+    for trace, numbers in shown_cases(scenario).items():
+        work = partial(plots.flows, timeline, numbers, scenario, shown[trace], look, until[trace])
+        made.append(("flows-" + trace, "Over time: " + trace, OVER_TIME, work))
+    return made
 
 
 OVER_TIME = (
@@ -204,6 +214,7 @@ def rows_of(frame: pd.DataFrame, by: Sequence[str], groups: pd.DataFrame | None)
 
 
 def named(row: Mapping[str, Any], by: Sequence[str]) -> Dict[str, Any]:
+    """The columns `by` of a row, with none for what has no value."""
     return {name: "none" if row.get(name) is None else row[name] for name in by}
 
 
@@ -308,9 +319,11 @@ class Page:
 
     @property
     def rows(self) -> List[Row]:
+        """The rows of the table: the simulated senders, then the real ones."""
         return [*rows_of(self.frame, self.by, self.groups), *self.real.rows]
 
     def summary(self) -> str:
+        """The table as text, with a note on the losses of slow start."""
         notes = slow_start.note_of(*marks_of(self.frame))
         return summary(self.rows, self.by) + "".join("lost%%: %s\n" % text for text in notes)
 
@@ -392,6 +405,7 @@ class Page:
         return ": ".join([*([", ".join(asked)] if asked else []), values_of(self.frame["queue"])])
 
     def cells(self, rows: Sequence[Row], row: Row) -> Dict[str, Any]:
+        """A row as the template shows it: each figure as text and number, and whether it is the best of its rows."""
         cells = [
             {"text": text_of(name, row.values[name]), "value": row.values[name][0], "best": best_of(rows, row, name)}
             for name in TABLE
@@ -399,6 +413,8 @@ class Page:
         return {"names": list(row.by.items()), "cells": cells, "doubts": row.doubts}
 
     def traces(self) -> List[Dict[str, Any]]:
+        """Each trace of the comparison: its mean rate in Mbit/s with packets of 1,500 bytes, its length in seconds, its
+        longest gap in milliseconds, and its SHA-256."""
         made = []
         for name, text in self.scenario["traces"].items():
             trace = Trace(trace_times(text, name))
@@ -457,6 +473,7 @@ def values_of(column: pd.Series) -> str:
 
 
 def sha256(text: str) -> str:
+    """The SHA-256 of a text in UTF-8, as hexadecimal digits."""
     return hashlib.sha256(text.encode("utf-8", "surrogateescape")).hexdigest()
 
 
@@ -480,6 +497,7 @@ def revision() -> str:
 
 
 def versions(path: Path) -> List[Tuple[str, str]]:
+    """What made the report, as names and values: the program at a path, the sources, and the libraries."""
     known = program.identity(path)
     return [
         ("ccp, version", known.version),

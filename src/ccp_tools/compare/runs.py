@@ -39,6 +39,7 @@ class Progress:
     begun: float = field(default_factory=time.monotonic)
 
     def say(self, what: str) -> None:
+        """Prints a line with the seconds since the beginning, unless --quiet was given."""
         if not self.is_quiet:
             elapsed = time.monotonic() - self.begun
             print("ccp compare: %.0f s: %s" % (elapsed, what), file=sys.stderr, flush=True)
@@ -86,6 +87,7 @@ class Runner:
         return program.run(mode, part, program=self.program, workers=program.processors()).output
 
     def table(self, part: Mapping[str, Any]) -> texts.Table:
+        """The table that `campaign` prints of a part. Its rows are kept."""
         made = texts.read_table(self.output("campaign", part))
         self.rows += made.rows
         return made

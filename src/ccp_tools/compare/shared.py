@@ -172,6 +172,7 @@ def jobs_of(found: Sequence[Sharing], scenario: Scenario, look: Look) -> List[Tu
 
 
 def pages_of(one: Sharing, scenario: Scenario, look: Look) -> List[Figure]:
+    """The pages of the flows on one link: their throughput and shares, then the losses and the queue."""
     mss = next(case["mss"] for case in scenario["cases"] if case["trace"] == one.trace)
     series, edges = one.series, np.round(1e6 * np.array(one.series.times)).astype(np.int64)
     capacity = 8 * mss * shares.chances_in(Link(scenario).trace(one.trace), edges) / np.diff(edges)
@@ -195,6 +196,7 @@ def table_of(found: Sequence[Sharing]) -> List[Dict[str, Any]]:
 
 
 def metrics_text(row: Mapping[str, Any], name: str) -> str:
+    """A figure of a row as the table shows it, in the unit of its column, or none."""
     shown, value = metrics.SHOWN[name], row[name]
     return "none" if value is None else "%.*f" % (shown.decimals, value * shown.factor)
 

@@ -46,6 +46,7 @@ Hints = Callable[[Program, int, Optional[Node]], List[str]]
 
 
 def hints_of_not_text(program: Program, start: int, _node: Optional[Node]) -> List[str]:
+    """A byte that the language doesn't have: a file that is no program, curly quotes, other blanks, dashes."""
     file = hints_of_file(program.text.encode("latin-1"))
     if file:
         return file
@@ -78,6 +79,7 @@ def first_character(data: bytes) -> Optional[str]:
 
 
 def hints_of_bad_name(_program: Program, _start: int, node: Optional[Node]) -> List[str]:
+    """A word that is no name, such as `-5`, a quoted word, or one of another language."""
     word = node.text if node else ""
     if word in INSTEAD:
         return [INSTEAD[word]]
@@ -102,6 +104,7 @@ def hints_of_bad_name(_program: Program, _start: int, node: Optional[Node]) -> L
 
 
 def hints_of_bad_numeral(_program: Program, _start: int, node: Optional[Node]) -> List[str]:
+    """A word that begins with a digit and is no numeral: too large, a fraction, hexadecimal, or with a unit."""
     word = node.text if node else ""
     if re.fullmatch("[0-9]+", word):
         return ["The largest number is 18446744073709551615, which `+infinity` stands for."]
@@ -142,6 +145,7 @@ def hint_of_weight(word: str) -> str:
 
 
 def hints_of_unexpected(program: Program, start: int, node: Optional[Node]) -> List[str]:
+    """What stands outside all lists: one `)` too many, acknowledgements, a scenario, a trace, a path."""
     if program.text[start : start + 1] == ")":
         return ["One `)` too many is here, or one too few `(` before it."]
     word = node.text if node else ""
@@ -162,15 +166,18 @@ def hints_of_unexpected(program: Program, start: int, node: Optional[Node]) -> L
 
 
 def hints_of_unclosed(_program: Program, _start: int, node: Optional[Node]) -> List[str]:
+    """A list without its end."""
     head = " of `(%s ..`" % cut(node.head()) if node and node.head() else ""
     return ["The `)`%s is missing. It is the last list that isn't closed; an earlier one may lack it too." % head]
 
 
 def hints_of_nesting(_program: Program, _start: int, _node: Optional[Node]) -> List[str]:
+    """Lists in more levels than the language takes."""
     return ["Give a part of the expression a name of its own first: `(:= part ..)`."]
 
 
 def hints_of_twice(program: Program, start: int, node: Optional[Node]) -> List[str]:
+    """A name that is declared twice, with the place of the first declaration."""
     if node is None or node.within is None:
         return []
     if node.text == "Report":
@@ -184,6 +191,7 @@ def hints_of_twice(program: Program, start: int, node: Optional[Node]) -> List[s
 
 
 def hints_of_unknown(program: Program, _start: int, node: Optional[Node]) -> List[str]:
+    """A name that nothing declares, with near names and the prefix that may be missing."""
     if node is None:
         return []
     word = node.text
@@ -212,10 +220,12 @@ def hints_of_unknown(program: Program, _start: int, node: Optional[Node]) -> Lis
 
 
 def hints_of_not_writable(_program: Program, _start: int, node: Optional[Node]) -> List[str]:
+    """An assignment to a primitive of the acknowledgement."""
     return ["`%s` comes from the acknowledgement." % cut(node.text if node else "")]
 
 
 def hints_of_kind(program: Program, _start: int, node: Optional[Node]) -> List[str]:
+    """A number where a Bool is needed, or the reverse."""
     if node is None or node.within is None:
         return []
     within = node.within
@@ -230,10 +240,12 @@ def hints_of_kind(program: Program, _start: int, node: Optional[Node]) -> List[s
 
 
 def hints_of_micros(_program: Program, _start: int, _node: Optional[Node]) -> List[str]:
+    """An assignment to `Micros` of anything other than 0."""
     return ["`(:= Micros 0)` is the only assignment of `Micros`: it makes this acknowledgement the time zero."]
 
 
 def hints_of_too_deep(_program: Program, _start: int, _node: Optional[Node]) -> List[str]:
+    """An expression that needs more temporaries than there are."""
     return [
         "Each step down to the right of an operator needs one more temporary.",
         "Name a part first, as `(:= part ..)`, or put the deeper part on the left.",
@@ -244,6 +256,7 @@ def hints_of_too_deep(_program: Program, _start: int, _node: Optional[Node]) -> 
 
 
 def hints_of_misplaced(program: Program, _start: int, node: Optional[Node]) -> List[str]:
+    """A node in a place where its kind can't be: by its level, a form, a declaration, or a part of a body."""
     if not program.forms:
         return ["There is no form at all. A program is `(def ..)` and then blocks `(when condition command ..)`."]
     if node is None or node.within is None:
@@ -256,6 +269,7 @@ def hints_of_misplaced(program: Program, _start: int, node: Optional[Node]) -> L
 
 
 def hints_of_form(program: Program, node: Node) -> List[str]:
+    """A form of the top level that is no `def` in front and no block after it."""
     if node.index == 0:
         return ["A program begins with `(def ..)`; `(def)` alone declares nothing."]
     if node.head() == "when":
@@ -268,6 +282,7 @@ def hints_of_form(program: Program, node: Node) -> List[str]:
 
 
 def hints_of_declaration(node: Node) -> List[str]:
+    """A part of `def` that is no declaration."""
     if node.is_list or node.within is not None and node.within.head() in ("def", "Report"):
         words = [part.text for part in node.parts]
         if len(words) == 1 and is_name(words[0]):
@@ -289,6 +304,7 @@ def hints_of_declaration(node: Node) -> List[str]:
 
 
 def hints_of_body(program: Program, node: Node) -> List[str]:
+    """A part of a block that is no command, no target and no value."""
     within = node.within
     assert within is not None
     if within.head() == "when" and node.index > 1:
@@ -301,6 +317,7 @@ def hints_of_body(program: Program, node: Node) -> List[str]:
 
 
 def hints_of_command(program: Program, node: Node) -> List[str]:
+    """What stands as a command of a block and is none."""
     head, count = node.head(), len(node.parts) - 1
     if not node.is_list:
         if node.text in COMMANDS[2:]:
@@ -325,6 +342,7 @@ def hints_of_command(program: Program, node: Node) -> List[str]:
 
 
 def hints_of_expression(program: Program, node: Node) -> List[str]:
+    """A list that stands as a value and is none, such as an operator with one part or three."""
     head, count = node.head(), len(node.parts) - 1
     if not node.parts:
         return ["`()` is no value."]

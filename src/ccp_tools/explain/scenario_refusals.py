@@ -184,6 +184,7 @@ def hints_of_name(name: str) -> List[str]:
 
 
 def hints_of_loss(scenario: Scenario, value: Value, path: str) -> List[str]:
+    """A number of `losses` that is no whole number, or isn't above the one before it."""
     number = value.whole()
     matched = re.search(r"losses\[([0-9]+)\]", path)
     if number is None or matched is None:

@@ -5,6 +5,7 @@ from __future__ import annotations
 import argparse
 import re
 import sys
+from functools import partial
 from typing import Any, Callable, Dict, List, Mapping, Sequence, Tuple
 
 import numpy as np
@@ -59,29 +60,31 @@ def add_look(parser: argparse._ActionsContainer) -> None:
 
 
 def look_of(arguments: argparse.Namespace) -> Look:
+    """The look that --size, --title and --font ask for."""
     return Look(arguments.size, arguments.title, *arguments.font)
+
+
+def add_kind(kinds: Any, name: str, what: str, text: str, metavar: str) -> Callable[..., Any]:
+    """Adds a kind of plot with the arguments that several kinds have, and returns its add_argument."""
+    made = kinds.add_parser(name, help=what, description=what)
+    add_look(made)
+    made.add_argument("text", metavar=metavar, help=text)
+    made.add_argument("plots", nargs="+", metavar="FILE", help="the files, which end with .svg, .png, .pdf or .eps")
+    if name in ("flows", "delay", "cdf"):
+        made.add_argument("--until", type=metrics.seconds, metavar="S", help="only the first S seconds (all)")
+        numbers = list_of(whole(0, 10**6))
+        made.add_argument("--flows", type=numbers, metavar="LIST", help="numbers of flows, as 0,2 (all)")
+    if name == "flows":
+        made.add_argument("--acks-file", metavar="ACKS", help="what `acks` printed of the same scenario")
+        deprecated(made, "--acks", "--acks-file")
+    if name == "shares":
+        add_ccp(made)
+    return made.add_argument
 
 
 def add_arguments(parser: argparse.ArgumentParser) -> None:
     """Adds the kinds of plots with their arguments."""
-    kinds = parser.add_subparsers(dest="what", required=True, metavar="|".join(PAGES))
-
-    def kind(name: str, what: str, text: str, metavar: str) -> Callable[..., Any]:
-        made = kinds.add_parser(name, help=what, description=what)
-        add_look(made)
-        made.add_argument("text", metavar=metavar, help=text)
-        made.add_argument("plots", nargs="+", metavar="FILE", help="the files, which end with .svg, .png, .pdf or .eps")
-        if name in ("flows", "delay", "cdf"):
-            made.add_argument("--until", type=metrics.seconds, metavar="S", help="only the first S seconds (all)")
-            numbers = list_of(whole(0, 10**6))
-            made.add_argument("--flows", type=numbers, metavar="LIST", help="numbers of flows, as 0,2 (all)")
-        if name == "flows":
-            made.add_argument("--acks-file", metavar="ACKS", help="what `acks` printed of the same scenario")
-            deprecated(made, "--acks", "--acks-file")
-        if name == "shares":
-            add_ccp(made)
-        return made.add_argument
-
+    kind = partial(add_kind, parser.add_subparsers(dest="what", required=True, metavar="|".join(PAGES)))
     figures, shown = "what `ccp metrics` wrote", ["throughput_mbps", "loss_rate", "queueing_p95_ms"]
     add = kind("bars", "metrics of cases as bars, with intervals over seeds", figures, "METRICS")
     each = "a panel each (%s)" % ",".join(shown)
@@ -130,6 +133,7 @@ def acks_of(path: str, numbers: Sequence[int] | None) -> List[AckFrame]:
 
 
 def check_numbers(wanted: Sequence[int] | None, known: Sequence[int], path: str) -> None:
+    """Refuses by a CcpError a flow of --flows that the file at `path` doesn't have."""
     for number in wanted or []:
         if number not in known:
             raise CcpError("%s: there is no flow %d in it" % (name_of(path), number))
@@ -147,6 +151,7 @@ def pages_of_trips(arguments: argparse.Namespace) -> List[Figure]:
 
 
 def timeline_in(path: str) -> Timeline:
+    """The timeline of a file of `timeline` or `live`. A CcpError with the file's name where it is none."""
     text = read_text(path)
     if texts.kind_of(text) != "live":
         raise CcpError("%s: this is no text of `timeline` or `live`" % name_of(path))
@@ -157,6 +162,7 @@ def timeline_in(path: str) -> Timeline:
 
 
 def pages_of_flows(arguments: argparse.Namespace) -> List[Figure]:
+    """The pages of `flows`."""
     timeline = timeline_in(arguments.text)
     check_numbers(arguments.flows, list(timeline.ends["flow"]), arguments.text)
     scenario = read_scenario(arguments.scenario) if arguments.scenario else None
@@ -184,6 +190,7 @@ def print_notes(timeline: Timeline, numbers: Sequence[int], has_acks: bool) -> N
 
 
 def note(text: str) -> None:
+    """Prints a note on standard error."""
     print("ccp plot: " + text, file=sys.stderr)
 
 
@@ -196,6 +203,7 @@ def delays_of_reports(timeline: Timeline) -> Dict[str, float]:
 
 
 def pages_of_table(arguments: argparse.Namespace) -> List[Figure]:
+    """The pages of `table`: throughput, loss, and with a timeline the mean queueing delay."""
     text = read_text(arguments.text)
     if texts.kind_of(text) != "table":
         raise CcpError("%s: this is no table of `campaign` or `shared`" % name_of(arguments.text))
@@ -247,6 +255,7 @@ def split_name(row: Mapping[str, Any]) -> Tuple[str, str] | None:
 
 
 def pages_of_shares(arguments: argparse.Namespace) -> List[Figure]:
+    """The page of `shares`, of acknowledgements or of a scenario."""
     text, look = read_text(arguments.text), look_of(arguments)
     if not text.startswith("flow "):
         return [shares_of_scenario(scenario_of(text, name_of(arguments.text)), arguments, look)]

@@ -20,6 +20,7 @@ from .series import Line, Series, series_of
 
 LABELS = {"throughput": "throughput [Mbit/s]", "window": "window [segments]", "trip": "round-trip time [ms]"}
 MARKS = ("loss", "mark", "timeout", "change", "fault")
+STROKE: Mapping[str, Any] = {"linestyle": "-", "marker": "", "linewidth": 1.3, "solid_capstyle": "butt"}
 
 
 def flows(
@@ -57,6 +58,8 @@ def flows(
 def flow_page(
     found: List[Series], link: Link | None, trace: str, length: int, look: Look, until_s: float | None
 ) -> Figure:
+    """A page of flows over time up to `until_s` seconds. `length` is that of windows of time in microseconds, or 0
+    where the values are those of reports."""
     end = min(max([series.end for series in found] + [0.001]), until_s or math.inf)
     rows = [kind for kind in MARKS if any(len(series.marks.get(kind, ())) for series in found)]
     shown = [name for name in LABELS if any(np.isfinite(series.lines[name][1]).any() for series in found)]
@@ -110,6 +113,8 @@ def draw_marks(panel: Axes, found: List[Series], rows: List[str]) -> None:
             times = np.unique(np.round(series.marks.get(kind, np.zeros(0)), 3))
             middle = row + 0.4 - (at + 0.5) * tall
             ends = (middle - 0.42 * tall, middle + 0.42 * tall)
-            panel.vlines(times, *ends, color=line_look(at)["color"], linewidth=1.3)
+            # one line with a break after each stroke, since a collection takes longer to draw and is a larger file
+            across, up = np.repeat(times, 3), np.tile([*ends, np.nan], len(times))
+            panel.plot(across, up, color=line_look(at)["color"], **STROKE)
     panel.grid(False)
     panel.set(yticks=range(len(rows)), yticklabels=rows[::-1], ylim=(-0.6, len(rows) - 0.4))

@@ -40,6 +40,7 @@ def named_flows(flows: Iterable[AckFrame], scenario: Mapping[str, Any] | None) -
 
 
 def known_case(own: Mapping[str, Any], name: str) -> Any:
+    """The case of a name. A CcpError where the scenario has none."""
     if name not in own:
         raise CcpError("the scenario has no case %s" % name)
     return own[name]

@@ -6,7 +6,7 @@ import math
 import re
 from dataclasses import dataclass
 from pathlib import Path
-from typing import Any, Callable, Dict, List, Mapping, Sequence, Tuple, TypeVar
+from typing import Any, Callable, Collection, Dict, List, Mapping, Sequence, Tuple, TypeVar
 
 import matplotlib
 import numpy as np
@@ -56,6 +56,7 @@ class Look:
 
     @property
     def width(self) -> float:
+        """The width of a file in points."""
         return SIZES[self.size] if isinstance(self.size, str) else self.size[0]
 
     @property
@@ -87,6 +88,7 @@ def chunks(items: Sequence[Item], size: int) -> List[Sequence[Item]]:
 
 
 def line_look(at: int) -> Dict[str, Any]:
+    """The colour, the strokes and the mark of a sender's line, by its number from 0."""
     return dict(CYCLE[at % MOST_SENDERS])
 
 
@@ -96,17 +98,26 @@ def mark_look(at: int) -> Dict[str, Any]:
 
 
 def bar_look(at: int) -> Dict[str, Any]:
+    """The face, the edge and the hatch of a sender's bar, by its number from 0."""
     hatch, share = FILLS[at % MOST_SENDERS]
     colour = matplotlib.colors.to_rgb(line_look(at)["color"])
     return {"facecolor": [1 - share * (1 - part) for part in colour], "edgecolor": colour, "hatch": hatch}
 
 
 def line_keys(names: Sequence[str]) -> Dict[str, Any]:
+    """The handles of a legend of lines, a name each."""
     return {name: Line2D([], [], **line_look(at)) for at, name in enumerate(names)}
 
 
 def link_key() -> Patch:
+    """The handle of the link's capacity in a legend."""
     return Patch(facecolor=GREY, edgecolor="#AAAAAA")
+
+
+def legend_columns(look: Look, names: Collection[str]) -> int:
+    """How many entries of a legend fit side by side."""
+    letters = max(map(len, names), default=0)
+    return max(1, min(len(names), int((look.width / look.points - 2) // (0.62 * letters + 4.5))))
 
 
 def page(
@@ -126,7 +137,7 @@ def page(
     rows, `gap` is the space between them and `below` that under the last one, in lines of text; `apart` is the space
     between columns in letters. `shared` are sharex and sharey of subplots. A CcpError where the size is too small."""
     line, points, width, rows = 1.45 * look.points, look.points, look.width, len(heights)
-    beside = max(1, min(len(legend), int((width / points - 2) // (0.62 * max(map(len, legend), default=0) + 4.5))))
+    beside = legend_columns(look, legend)
     head = 1.8 if look.title else 0.5
     above = head + 1.15 * math.ceil(len(legend) / beside) + (1.7 if has_titles else 0.5)
     gap += 1.5 if has_titles else 0
@@ -139,22 +150,24 @@ def page(
         text = "%gx%g points are too small for the panels and the legend: a greater --size is needed"
         raise CcpError(text % (width, height))
     figure = Figure(figsize=(width / 72, height / 72))
-    grid: Dict[str, Any] = {
-        "left": left / width,
-        "right": 1 - 1.2 * points / width,
-        "wspace": apart * points / wide,
-    }
+    grid = {"left": left / width, "right": 1 - 1.2 * points / width, "wspace": apart * points / wide}
     grid.update(top=1 - above * line / height, bottom=below * line / height, hspace=gap * line / tall)
-    ratios = {"height_ratios": heights, "width_ratios": widths or [1] * columns}
+    ratios: Dict[str, Any] = {"height_ratios": heights, "width_ratios": widths or [1] * columns}
     panels = figure.subplots(rows, columns, squeeze=False, gridspec_kw={**grid, **ratios}, **shared).ravel().tolist()
-    for axis in (axis for panel in panels for axis in (panel.xaxis, panel.yaxis)):
-        axis.set_major_locator(MaxNLocator(6, steps=[1, 2, 2.5, 5, 10]))
-        axis.set_major_formatter(FuncFormatter(lambda value, _: "%g" % round(value, 9)))
+    for panel in panels:
+        plain_scales(panel)
     if look.title:
         figure.suptitle(look.title, y=1 - 0.3 * line / height, va="top")
     anchor = (0.5, 1 - head * line / height)
     figure.legend(list(legend.values()), list(legend), loc="upper center", ncol=beside, bbox_to_anchor=anchor)
     return figure, panels
+
+
+def plain_scales(panel: Axes) -> None:
+    """Gives both axes at most seven ticks, at round numbers that are written plainly."""
+    for axis in (panel.xaxis, panel.yaxis):
+        axis.set_major_locator(MaxNLocator(6, steps=[1, 2, 2.5, 5, 10]))
+        axis.set_major_formatter(FuncFormatter(lambda value, _: "%g" % round(value, 9)))
 
 
 def titled_page(

@@ -32,6 +32,7 @@ VARIED: Dict[str, Any] = dict(
 
 
 def is_known(value: Any) -> bool:
+    """Whether a value of a frame is there: neither None, nor NA, nor NaN."""
     return value is not None and value is not pd.NA and value == value
 
 

@@ -76,6 +76,7 @@ class Reno(Agent):
         self.window = first_segments(mss) * mss
 
     def bytes(self) -> int:
+        """The window in bytes."""
         return self.window
 
     def _held(self, window: int) -> int:
@@ -86,6 +87,8 @@ class Reno(Agent):
         return min(max(flight // 2, 2 * self.mss), SEGMENTS * self.mss)
 
     def report(self, seen: Mapping[str, int]) -> Reply:
+        """The reply of Reno: a cut at a loss or a mark, once in a round trip, one segment after a timeout, else
+        growth."""
         if self.phase == "ss":
             self.window = self._held(seen["cwnd"])
         if seen["timeout"]:
@@ -123,6 +126,7 @@ class Cubic(Agent):
         self.w_max = self.w_prior = self.w_est = self.k = self.t0 = 0
 
     def bytes(self) -> int:
+        """The window in bytes, rounded down."""
         return self.w * self.mss // 1000
 
     def curve(self, time: int) -> int:
@@ -132,6 +136,8 @@ class Cubic(Agent):
         return stop(self.w_max + off) if time >= self.k else stop(self.w_max - off)
 
     def report(self, seen: Mapping[str, int]) -> Reply:
+        """The reply of CUBIC: a cut to 0.7 at a loss or a mark, once in a round trip, one segment after a timeout, else
+        growth along the curve."""
         if self.phase == "ss":
             self.w = min(max(stop(seen["cwnd"] * 1000 // self.mss), 1000), 1000 * SEGMENTS)
         if seen["timeout"]:
