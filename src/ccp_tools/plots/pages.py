@@ -205,8 +205,8 @@ def from_zero(panel: Axes, name: str, values: np.ndarray, most: float | None = N
 
 
 def mark_cut(panel: Axes) -> None:
-    """Two strokes at the foot of a value axis that doesn't begin at 0. Their size is the text's, so that they end before
-    the numbers of the axis."""
+    """Two strokes at the foot of a value axis that doesn't begin at 0. Their size is the text's, so that they end
+    before the numbers of the axis."""
     size = 0.8 * matplotlib.rcParams["font.size"]
     stroke: Dict[str, Any] = dict(marker=[(-1, -0.5), (1, 0.5)], markersize=size, markeredgewidth=1, clip_on=False)
     panel.plot([0, 0], [0.025, 0.055], color="black", linestyle="", transform=panel.transAxes, **stroke)
