@@ -168,7 +168,7 @@ def test_doubts_are_seen_and_never_bold(compared):
         assert is_marked == cells[1].startswith("faulty") and not (is_marked and is_bold), cells
     assert any(is_bold for _, _, is_bold in rows_of_page(page))
     assert "case fixed-faulty: " in (compared / "errors").read_text() and "faults of its program" in page
-    warning = "faulty.portus:2:42: `least` begins as `+infinity`: a sum of it is a fault (`Overflow`)"
+    warning = "faulty.portus:2:44: `least` begins as `+infinity`: a sum of it is a fault (`Overflow`)"
     assert warning in (compared / "errors").read_text() and warning in html.unescape(page).partition('id="results"')[0]
     assert "! faulty on fixed: " in (compared / "printed").read_text()
     assert page.index("Before you read the figures") < page.index('id="results"') < page.index('<table id="figures">')

@@ -147,7 +147,7 @@ def test_axes_of_a_scatter():
     ]
     panel = plots.scatter(plots.points_of(pd.DataFrame(rows)))[0].axes[0]
     assert panel.xaxis_inverted() and panel.get_xscale() == "log" and panel.get_ylim()[0] > 0
-    assert sum(not line.get_clip_on() for line in panel.lines) == 1  # the strokes
+    assert [len(line.get_xdata()) for line in panel.lines if not line.get_clip_on()] == [2]  # the strokes
     rows[1]["queueing_p95_ms"] = 4.0
     panel = plots.scatter(plots.points_of(pd.DataFrame(rows)))[0].axes[0]
     assert panel.get_xscale() == "linear" and panel.get_xlim()[1] == 0

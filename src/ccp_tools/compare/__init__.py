@@ -24,8 +24,8 @@ A case with a fault, without a report, with a window that never moved, with held
 changed by its agent is marked, with the reason, on standard error, in the table and in the report.
 
 DIR gets compare.toml (these options), scenario.json, table.txt, timeline.txt, acks.txt, metrics.csv, metrics.json (and
-groups.csv over seeds), the plots as SVG (--plots svg,pdf), and report.html with all of it. What an earlier comparison wrote
-there is removed first. A file compare.toml has the options by their names, as `senders = ["reno", "cubic"]`, and
+groups.csv over seeds), the plots as SVG (--plots svg,pdf), and report.html with all of it. What an earlier comparison
+wrote there is removed first. A file compare.toml has the options by their names, as `senders = ["reno", "cubic"]`, and
 `traces`; options beside it go before it, and its paths are relative to the folder that you are in. --dry-run writes
 nothing: it says how large the comparison is, and about how long it takes. `ccp audit` checks the timeline against the
 scenario.

@@ -210,7 +210,7 @@ HEADS = [
 ]
 
 
-def waits_of(series: Series) -> List[float | None] | None:
+def mean_waits(series: Series) -> List[float | None] | None:
     """The mean wait of the packets sent in each step, in milliseconds; None where none was sent, or it isn't known."""
     if series.queue is None:
         return None
@@ -227,7 +227,7 @@ def json_text(found: Sequence[Sharing]) -> str:
             "times_s": one.series.times,
             "acked_bytes": one.series.acked.tolist(),
             "lost_packets": one.series.lost.tolist(),
-            "queue_ms": waits_of(one.series),
+            "queue_ms": mean_waits(one.series),
         }
         for one in found
     ]

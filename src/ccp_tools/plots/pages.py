@@ -132,13 +132,15 @@ def page(
     gap += 1.5 if has_titles else 0
     around = above + gap * (rows - 1) + below
     height = line * (around + sum(heights)) if isinstance(look.size, str) else look.size[1]
-    tall, wide = (height - line * around) / rows, (width - points * (6.6 + (columns - 1) * apart)) / columns
+    # the ticks and the space around their labels don't shrink with the text
+    left = 12 + 4.4 * points
+    tall, wide = (height - line * around) / rows, (width - left - points * (1.2 + (columns - 1) * apart)) / columns
     if tall < 20 or wide < 40:
         text = "%gx%g points are too small for the panels and the legend: a greater --size is needed"
         raise CcpError(text % (width, height))
     figure = Figure(figsize=(width / 72, height / 72))
     grid: Dict[str, Any] = {
-        "left": 5.4 * points / width,
+        "left": left / width,
         "right": 1 - 1.2 * points / width,
         "wspace": apart * points / wide,
     }
@@ -190,10 +192,10 @@ def from_zero(panel: Axes, name: str, values: np.ndarray, most: float | None = N
 
 
 def mark_cut(panel: Axes) -> None:
-    """Two strokes at the foot of a value axis that doesn't begin at 0. Their width is in points, so that they end
-    before the numbers of the axis."""
-    stroke = dict(marker=[(-1, -0.7), (1, 0.7)], markersize=8, markeredgewidth=1, color="black", linestyle="")
-    panel.plot([0, 0], [0.025, 0.055], transform=panel.transAxes, clip_on=False, **stroke)
+    """Two strokes at the foot of a value axis that doesn't begin at 0."""
+    size = 0.8 * matplotlib.rcParams["font.size"]
+    stroke: Dict[str, Any] = dict(marker=[(-1, -0.5), (1, 0.5)], markersize=size, markeredgewidth=1, clip_on=False)
+    panel.plot([0, 0], [0.025, 0.055], color="black", linestyle="", transform=panel.transAxes, **stroke)
 
 
 # ---- files

@@ -132,7 +132,7 @@ def bar_page(frame: pd.DataFrame, senders: List[str], names: Sequence[str], look
         legend["link"] = pages.link_key()
     below = 1.2 + max(label.count("\n") + 1 for label in labels)
     figure, panels = pages.page(look, legend, [9.5] * len(names), below=below, sharex=True)
-    is_dense = look.letters < 4.2 * (frame["at"].max() + 0.5)
+    is_dense = bool(look.letters < 4.2 * (frame["at"].max() + 0.5))
     for panel, name in zip(panels, names):
         bar_panel(panel, frame, name, is_dense, look)
         panel.tick_params(axis="x", length=0)

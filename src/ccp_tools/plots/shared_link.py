@@ -144,7 +144,7 @@ def shares_of_acks(
         chances = chances_in(Link(scenario).trace(run.trace), edges)
         capacity = 8 * max(case["mss"] for case in scenario["cases"]) * chances / np.diff(edges)
         queue = waits_in(waits_of(acks, found), edges)
-    return shares(list(found["case"]), edges / 1e6, acked, look, capacity, active, queue)
+    return shares(list(found["case"]), list(edges / 1e6), acked, look, capacity, active, queue)
 
 
 def check_shares(found: pd.DataFrame, edges: np.ndarray) -> None:
