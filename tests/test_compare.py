@@ -233,6 +233,7 @@ def test_no_sender_ends_before_the_span():
         (["{trace}"], 2, "--senders LIST is expected"),
         (["{trace}", "--senders", "reno"], 2, "--out DIR is expected"),
         (["{trace}", "--senders", "bbr", "--out", "{out}"], 2, "bbr is no sender"),
+        (["{trace}", "--senders", "reno", "--delay", "20"], 2, "--delay 20 (did you mean --delay-ms?)"),
         (["{trace}", "--senders", "reno,", "--out", "{out}"], 2, "before and after each comma"),
         (["{trace}", "--senders", "reno", "--out", "{trace}"], 1, "is a file, and --out is a folder"),
         (["/nowhere", "--senders", "reno", "--out", "{out}"], 1, "/nowhere: No such file"),

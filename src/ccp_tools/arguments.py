@@ -6,6 +6,7 @@ from __future__ import annotations
 import argparse
 import re
 import sys
+from difflib import get_close_matches
 from typing import Any, Callable, List, NoReturn, Sequence, TypeVar
 
 from .errors import UsageError
@@ -31,6 +32,12 @@ class Parser(argparse.ArgumentParser):
 
     def error(self, message: str) -> NoReturn:
         """Ends with a UsageError of one line, which the command prints with status 2."""
+        found = re.match(r"unrecognized arguments: (--[^ =]+)", message)
+        if found:
+            known = [name for name, action in self._option_string_actions.items() if action.help != argparse.SUPPRESS]
+            near = [name for name in known if name.startswith(found[1])] or get_close_matches(found[1], known, 1)
+            message += " (did you mean %s?)" % near[0] if near else ""
+            message += " (%s --help lists the options)" % self.prog
         raise UsageError(message.replace("\n", " "))
 
 
