@@ -31,6 +31,7 @@ import argparse
 import hashlib
 import shlex
 import shutil
+import sys
 import tempfile
 from pathlib import Path
 from typing import List
@@ -99,9 +100,8 @@ def add_machines(parser: argparse.ArgumentParser) -> None:
     )
     machines.add_argument(
         "--python",
-        default="python3",
         metavar="PATH",
-        help="for --metrics: the Python of the machines, with pandas (python3)",
+        help="for --metrics: the Python with pandas where parts run (here this one, on other machines python3)",
     )
 
 
@@ -111,7 +111,7 @@ def run(arguments: argparse.Namespace) -> int:
     data = read_bytes(arguments.scenario)
     words = arguments.output + (" --wire" if arguments.wire else "")
     program = find_program(arguments.ccp)
-    job = Job(data, words, program, hashlib.sha256(read_bytes(program)).hexdigest(), arguments.python)
+    job = Job(data, words, program, hashlib.sha256(read_bytes(program)).hexdigest(), python_of(arguments))
     folder = folder_of(arguments, job)
     try:
         work(arguments, folder, job)
@@ -127,6 +127,12 @@ def run(arguments: argparse.Namespace) -> int:
     if folder.is_temporary:
         shutil.rmtree(folder.path, ignore_errors=True)
     return 0
+
+
+def python_of(arguments: argparse.Namespace) -> str:
+    """The Python of --python, else the one that runs this where all parts run here, else that of the machines' PATH."""
+    is_here = not arguments.sshlogin and not arguments.slurm
+    return str(arguments.python or (sys.executable if is_here else "python3"))
 
 
 def check(arguments: argparse.Namespace) -> None:
