@@ -22,8 +22,8 @@ def trace(*words: object, given: str | bytes | None = None) -> Ran:
 
 
 def made(*words: object, given: str | bytes | None = None) -> str:
-    """What a command prints, which ends well and says nothing beside."""
-    ran = trace(*words, given=given)
+    """What a command prints, which ends well and says nothing beside; warnings of gaps have tests of their own."""
+    ran = trace(*words, "--quiet", given=given)
     assert (ran.status, ran.errors) == (0, "")
     return ran.output
 

@@ -101,7 +101,7 @@ def add_machines(parser: argparse.ArgumentParser) -> None:
     machines.add_argument(
         "--python",
         metavar="PATH",
-        help="for --metrics: the Python of the machines, with pandas (python3; here the one that runs this)",
+        help="for --metrics: the Python with pandas where parts run (here this one, on other machines python3)",
     )
 
 
@@ -130,9 +130,9 @@ def run(arguments: argparse.Namespace) -> int:
 
 
 def python_of(arguments: argparse.Namespace) -> str:
-    """The Python that works out the metrics of a part, where the part runs."""
-    is_here = not arguments.slurm and not arguments.sshlogin
-    return arguments.python or (sys.executable if is_here else "python3")
+    """The Python of --python, else the one that runs this where all parts run here, else that of the machines' PATH."""
+    is_here = not arguments.sshlogin and not arguments.slurm
+    return str(arguments.python or (sys.executable if is_here else "python3"))
 
 
 def check(arguments: argparse.Namespace) -> None:

@@ -137,8 +137,7 @@ def page(
     rows, `gap` is the space between them and `below` that under the last one, in lines of text; `apart` is the space
     between columns in letters. `shared` are sharex and sharey of subplots. A CcpError where the size is too small."""
     line, points, width, rows = 1.45 * look.points, look.points, look.width, len(heights)
-    beside = legend_columns(look, legend)
-    head = 1.8 if look.title else 0.5
+    beside, head = legend_columns(look, legend), 1.8 if look.title else 0.5
     above = head + 1.15 * math.ceil(len(legend) / beside) + (1.7 if has_titles else 0.5)
     gap += 1.5 if has_titles else 0
     around = above + gap * (rows - 1) + below
