@@ -493,6 +493,9 @@ def test_the_package_of_the_commands(debian: Debian) -> None:
     assert debian.must("ccp campaign %s | ccp table" % scenario).startswith("case,agent,acks,")
     assert debian.must("ccp help table").startswith("usage: ccp table")
     refused = debian.run("ccp compare x")
-    assert refused.status == 1 and "apt-get install python3-pandas" in refused.errors
+    if debian.run("python3 -c 'import pandas'").status:
+        assert refused.status == 1 and "apt-get install python3-pandas" in refused.errors
+    else:  # an earlier use of this folder installed it
+        assert refused.status == 2 and "--senders LIST is expected" in refused.errors
     debian.must("dpkg --remove ccp-tools ccp")
     assert debian.files() == before
