@@ -1,7 +1,7 @@
 """Traces from what was captured or measured: CSV of packets, intervals or rates, iperf's results, packet captures.
 
-A packet is a chance each time that its bytes have come. Each source becomes a list of Spans: so many packets between
-two times, in milliseconds. `chances` makes the times of a trace of them."""
+A packet is a chance each time that its bytes have come. Each source becomes a list of Spans, each of which has a
+number of packets between two times in milliseconds. `chances` makes the times of a trace of them."""
 from __future__ import annotations
 
 import csv

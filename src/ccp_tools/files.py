@@ -12,7 +12,7 @@ from .errors import CcpError
 
 PathLike = Union[str, Path]
 
-# a file that is read whole has at most so many bytes: with a longer one, or one without an end, memory would run out
+# the most bytes of a file that is read whole: a longer one, or one without an end, would take all memory
 MOST_BYTES = 1 << 30
 PIECE = 1 << 20
 

@@ -377,7 +377,7 @@ def figures_of_orders(
     scenario: Mapping[str, Any], count: int = 0, changes: int = 0, path: str | Path | None = None
 ) -> pd.DataFrame:
     """The figures of flows that share a link, in `count` orders of the scenario's flows, or in all where it is 0, each
-    with so many small changes of queue and delays.
+    with `changes` small changes of queue and delays.
 
     A row for each flow of each run, those of a run in the order of the scenario: the columns of `figures`, and `run`
     from 1, the flow's `place` in the run's order from 1, and `change`, 0 where nothing is changed. `path` is that of

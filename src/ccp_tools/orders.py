@@ -24,7 +24,7 @@ from .scenario_files import Scenario
 from .tables import LIMITS
 from .texts import Table
 
-# a change is at most so many packets of the queue, more or less, and so much longer a delay
+# a change makes the queue at most this many packets longer or shorter, and a delay at most this much longer
 QUEUE_PACKETS = 3
 DELAY_US = 3000
 # the most runs of one command

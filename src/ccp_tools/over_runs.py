@@ -411,7 +411,7 @@ class Slurm(Runner):
         return found.group(0)
 
     def script(self, todo: str, tasks: int) -> str:
-        """The script of a task: every so many parts of the list, but those that have an answer already."""
+        """The script of a task, which takes every `tasks`-th part of the list and runs it if it has no answer yet."""
         words = " ".join(shlex.quote(word) for word in self.part_words())
         return """#!/bin/sh
 for part in $(awk -v task="$SLURM_ARRAY_TASK_ID" 'NR %% %d == (task + 1) %% %d' %s); do

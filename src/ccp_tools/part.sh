@@ -1,6 +1,6 @@
 # Runs a part of a scenario, on whatever machine: sh part.sh PROGRAM SHA256 WORDS PYTHON PART
 #
-# PART.json becomes PART.result: a line `ccp-part STATUS BYTES`, so many bytes of output, and the errors. It has another
+# PART.json becomes PART.result: a line `ccp-part STATUS BYTES`, BYTES bytes of output, and the errors. It has another
 # name until it is whole. WORDS are the mode with its options, or `metrics`, which needs `tools.pyz` in this folder. The
 # program has to be the one with this SHA-256, so that no two versions are mixed. Status 0 and 3 (ccp refuses the part)
 # are answers; any other one is a failed run, which may be tried again.

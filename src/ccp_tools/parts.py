@@ -77,11 +77,11 @@ class Splitter:
         yield first, len(self.cases)
 
     def is_full(self, cases: int, size: int) -> bool:
-        """Whether a part of so many cases, or of so many bytes with the next one, takes no more."""
+        """Whether a part of `cases` cases takes no more, or one that has `size` bytes with the next case."""
         return cases >= self.size or size > LIMITS["input_bytes"]
 
     def has_too_many(self, acks: int) -> bool:
-        """Whether so many acknowledgements are more than a run takes."""
+        """Whether `acks` acknowledgements are more than a run takes."""
         return self.most_acks is not None and acks > self.most_acks
 
     def part(self, first: int, end: int) -> Part:

@@ -22,7 +22,7 @@ import pandas as pd
 from .errors import CcpError
 from .traces import Trace
 
-# a flow has its share once it gets this part of it, in so many windows one after another
+# a flow has its share once it gets this part of it in this number of windows one after another
 PART, IN_A_ROW = 0.9, 3
 # the most windows of a run where no length is given
 WINDOWS = 50
@@ -67,7 +67,7 @@ def frame_of_flows(rows: Sequence[Any]) -> pd.DataFrame:
 
 def window_us(end_us: float, most: int = 250) -> int:
     """The length of windows of time, in microseconds: the least of 1, 2, 5, 10, 20 ms and so on with which a time has
-    at most so many windows."""
+    at most `most` windows."""
     lengths = (factor * 1000 * 10**power for power in range(12) for factor in (1, 2, 5))
     return next(length for length in lengths if end_us / length <= most)
 

@@ -176,7 +176,7 @@ def counts_in(times: Sequence[int], window: int) -> List[int]:
 
 
 def info_of(path: str, times: Sequence[int], window: int, size: int) -> Dict[str, Any]:
-    """What the trace of a file is like: its length, rates in windows of so many milliseconds, and gaps."""
+    """What the trace of a file is like: its length, rates in windows of `window` milliseconds, and gaps."""
     if times[-1] // window > captures.MOST_CHANCES:
         raise CcpError("%s: its last time is %d ms, which is no trace's" % (name_of(path), times[-1]))
     rates = sorted(mbits(count, min(window, times[-1]), size) for count in counts_in(times, window))

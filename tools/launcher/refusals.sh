@@ -34,7 +34,7 @@ find_meant() {
     meant=''
     if [ ${#1} -gt 20 ]; then return; fi
     for one in "${@:2}"; do
-        # so many letters have to be put in or left out
+        # at least as many letters as the lengths differ by have to be added or left out
         distance=$((${#1} - ${#one}))
         if [ "${distance#-}" -ge "$least" ]; then continue; fi
         measure_distance "$1" "$one"

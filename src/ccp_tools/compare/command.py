@@ -40,7 +40,7 @@ OLD_FILES = (
 )
 OLD_PLOTS = ("bars*", "scatter*", "rtt*", "delay*", "flows-*", "overall*")
 MANIFEST = "files.json"
-# one calibrating case of --dry-run has at most so many acknowledgements
+# the most acknowledgements of a calibrating case of --dry-run
 TRIAL_ACKS = 256
 
 

@@ -53,7 +53,7 @@ def trips_of(flow: AckFrame) -> Tuple[np.ndarray, np.ndarray]:
 
 
 def parts_of(flows: Sequence[Named], most: int) -> Iterator[Tuple[List[str], List[str], List[Named]]]:
-    """The senders, the groups and the flows of each page, with at most so many groups."""
+    """The senders, the groups and the flows of each page, which has at most `most` groups."""
     for some in chunks(list(dict.fromkeys(one.sender for one in flows)), MOST_SENDERS):
         inside = [one for one in flows if one.sender in some]
         for part in chunks(list(dict.fromkeys(one.group for one in inside)), most):

@@ -69,7 +69,7 @@ class Link:
         return Packet(number, self.now, at, at + self.case["delay_us"], self.marks(waiting))
 
     def marks(self, waiting: int) -> bool:
-        """Whether a packet that comes while so many wait is marked."""
+        """Whether a packet that comes while `waiting` others wait is marked."""
         return "mark" in self.case and waiting >= self.case["mark"]
 
     def allowance(self, window: int) -> int:
