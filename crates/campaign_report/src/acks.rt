@@ -4,12 +4,12 @@ ghost use Rattle.ccp_base.specs.Limits.{most_cases, primitive_count};
 ghost use Rattle.campaign_report.specs.AcksText.{ack_line, ack_lines, acks_text, flow_text, flows_text, gap, is_shown};
 ghost use Rattle.campaign_report.specs.AcksText.{item_text, items_text};
 
-use crate::number::put_number;
 use crate::table::Agents;
 use agent_core::Agent;
 use campaign_core::CaseAcks;
 use ccp_base::{Ack, Acks, Bytes, Name, Names, NoMemory, PRIMITIVE_NAMES, prim};
 use live_lines::put_flow_line;
+use report_lines::put_number;
 use std::alloc::Global;
 
 /// The number of `now` among the primitives.
@@ -30,7 +30,6 @@ pub fn acks_text(
 {
     let mut text = Bytes::new(alloc);
     put_flows(
-        alloc,
         &mut text,
         names.as_slice(),
         agents.as_slice(),
@@ -40,7 +39,6 @@ pub fn acks_text(
 }
 
 fn put_flows(
-    alloc: Global,
     text: &mut Bytes,
     names: &[Name],
     agents: &[Agent],
@@ -60,7 +58,7 @@ fn put_flows(
         let Some((agent, rest_agents)) = left_agents.split_first() else {
             return Ok(());
         };
-        put_flow_text(alloc, text, flow, name, agent, acks)?;
+        put_flow_text(text, flow, name, agent, acks)?;
         flow += 1;
         left = rest;
         left_names = rest_names;
@@ -71,7 +69,6 @@ fn put_flows(
 
 // A function of its own: the loop above has one call in each turn, so it needs only its invariant.
 fn put_flow_text(
-    alloc: Global,
     text: &mut Bytes,
     flow: u32,
     name: &Name,
@@ -80,7 +77,7 @@ fn put_flow_text(
 ) -> Result<(), NoMemory>
     ensures { OnOk result (text.new ≡ text.old ++ flow_text flow name.now agent.now acks.now) }
 {
-    put_flow_line(alloc, text, flow, name, agent)?;
+    put_flow_line(text, flow, name, agent)?;
     put_acks(text, acks.as_slice())
 }
 

@@ -28,37 +28,27 @@ pub fn fold_text(
 {
     let fields = built.program.fields.as_slice();
     let mut text = Bytes::new(alloc);
-    put_reports(alloc, &mut text, fields, reports.as_slice())?;
-    put_notice(alloc, &mut text, built.places.as_slice(), fault)?;
-    put_end(alloc, &mut text, fields, reports.len() as u64, end)?;
+    put_reports(&mut text, fields, reports.as_slice())?;
+    put_notice(&mut text, built.places.as_slice(), fault)?;
+    put_end(&mut text, fields, reports.len() as u64, end)?;
     Ok(text)
 }
 
 /// Appends the line of a fault if there is one.
-fn put_notice(
-    alloc: Global,
-    text: &mut Bytes,
-    places: &[Place],
-    fault: Option<Notice>,
-) -> Result<(), NoMemory>
+fn put_notice(text: &mut Bytes, places: &[Place], fault: Option<Notice>) -> Result<(), NoMemory>
     ensures { OnOk result (text.new ≡ text.old ++ fault_part places.now fault) }
 {
     match fault {
         None => Ok(()),
-        Some(notice) => put_placed(alloc, text, &notice, places.get(usize::from(notice.index))),
+        Some(notice) => put_placed(text, &notice, places.get(usize::from(notice.index))),
     }
 }
 
-fn put_placed(
-    alloc: Global,
-    text: &mut Bytes,
-    notice: &Notice,
-    place: Option<&Place>,
-) -> Result<(), NoMemory>
+fn put_placed(text: &mut Bytes, notice: &Notice, place: Option<&Place>) -> Result<(), NoMemory>
     ensures { OnOk result (text.new ≡ text.old ++ placed_line notice.entry.now (option_map (λ p. p.now) place.entry)) }
 {
     match place {
         None => Ok(()),
-        Some(place) => put_fault(alloc, text, notice, *place),
+        Some(place) => put_fault(text, notice, *place),
     }
 }

@@ -6,7 +6,6 @@ mod acks;
 mod check;
 mod fold;
 mod live;
-mod number;
 mod programs;
 mod table;
 mod total;

@@ -25,53 +25,42 @@ pub fn live_text(alloc: Global, books: &[Book], programs: &Builts) -> Result<Byt
         → IfOk result (λ text. text ≡ read_text programs.now books.now) }
 {
     let mut text = Bytes::new(alloc);
-    put_books(alloc, &mut text, programs.as_slice(), books)?;
+    put_books(&mut text, programs.as_slice(), books)?;
     Ok(text)
 }
 
-fn put_books(
-    alloc: Global,
-    text: &mut Bytes,
-    programs: &[(u32, Built)],
-    books: &[Book],
-) -> Result<(), NoMemory>
+fn put_books(text: &mut Bytes, programs: &[(u32, Built)], books: &[Book]) -> Result<(), NoMemory>
     ensures { OnOk result (text.new ≡ text.old ++ books_text programs.now books.now) }
 {
     let mut left = books;
     while let Some((book, rest)) = left.split_first() {
-        put_book(alloc, text, programs, book)?;
+        put_book(text, programs, book)?;
         left = rest;
     }
     Ok(())
 }
 
-fn put_book(
-    alloc: Global,
-    text: &mut Bytes,
-    programs: &[(u32, Built)],
-    book: &Book,
-) -> Result<(), NoMemory>
+fn put_book(text: &mut Bytes, programs: &[(u32, Built)], book: &Book) -> Result<(), NoMemory>
     ensures { OnOk result (text.new ≡ text.old ++ book_text programs.now book.now) }
 {
     let case = &book.case;
-    put_flow_line(alloc, text, case.flow, &case.name, &case.agent)?;
-    put_epochs(alloc, text, book.epochs.as_slice())?;
-    put_faults(alloc, text, programs, case, book.faults.as_slice())?;
-    put_tickets(alloc, text, programs, book.tickets.as_slice())?;
-    put_last(alloc, text, programs, book)
+    put_flow_line(text, case.flow, &case.name, &case.agent)?;
+    put_epochs(text, book.epochs.as_slice())?;
+    put_faults(text, programs, case, book.faults.as_slice())?;
+    put_tickets(text, programs, book.tickets.as_slice())?;
+    put_last(text, programs, book)
 }
 
-fn put_epochs(alloc: Global, text: &mut Bytes, epochs: &[EpochLine]) -> Result<(), NoMemory>
+fn put_epochs(text: &mut Bytes, epochs: &[EpochLine]) -> Result<(), NoMemory>
     ensures { OnOk result (text.new ≡ text.old ++ epoch_lines 0 epochs.now) }
 {
     for (number, epoch) in epochs.iter().enumerate() {
-        put_epoch_line(alloc, text, number, epoch)?;
+        put_epoch_line(text, number, epoch)?;
     }
     Ok(())
 }
 
 fn put_faults(
-    alloc: Global,
     text: &mut Bytes,
     programs: &[(u32, Built)],
     case: &Case,
@@ -82,14 +71,13 @@ fn put_faults(
     let mut left = faults;
     while let Some((notice, rest)) = left.split_first() {
         let place = place_of(programs, case, notice.program, notice.index);
-        put_fault(alloc, text, notice, place)?;
+        put_fault(text, notice, place)?;
         left = rest;
     }
     Ok(())
 }
 
 fn put_tickets(
-    alloc: Global,
     text: &mut Bytes,
     programs: &[(u32, Built)],
     tickets: &[TicketLine],
@@ -97,18 +85,13 @@ fn put_tickets(
     ensures { OnOk result (text.new ≡ text.old ++ ticket_lines (sources_of programs.now) 0 tickets.now) }
 {
     for (number, ticket) in tickets.iter().enumerate() {
-        put_ticket_line(alloc, text, programs, number, ticket)?;
+        put_ticket_line(text, programs, number, ticket)?;
     }
     Ok(())
 }
 
 /// Appends the last line of a flow.
-fn put_last(
-    alloc: Global,
-    text: &mut Bytes,
-    programs: &[(u32, Built)],
-    book: &Book,
-) -> Result<(), NoMemory>
+fn put_last(text: &mut Bytes, programs: &[(u32, Built)], book: &Book) -> Result<(), NoMemory>
     ensures { OnOk result (text.new
         ≡ text.old ++ account_end_line (sources_of programs.now) (account_in programs.now book.now)) }
 {
@@ -118,7 +101,7 @@ fn put_last(
         faults: book.faults.len(),
     };
     let fields = fields_of(programs, last_program(book.epochs.as_slice()));
-    put_last_line(alloc, text, fields, counts, &end_in(book))
+    put_last_line(text, fields, counts, &end_in(book))
 }
 
 /// How a book's flow stands at the end.

@@ -4,12 +4,12 @@ ghost use Rattle.ccp_base.specs.Limits.{most_cases};
 ghost use Rattle.campaign_report.specs.TableText.{after_space, heading, headings, row_head, row_line, row_lines, soak_head, soak_text};
 ghost use Rattle.campaign_report.specs.TableText.{table_text, values};
 
-use crate::number::put_number;
 use crate::total::put_total;
 use agent_core::Agent;
 use campaign_core::{Column, Row, Rows};
 use ccp_base::{Bytes, Name, Names, NoMemory, Sequence};
 use live_lines::agent_text;
+use report_lines::{put_labelled, put_number};
 use std::alloc::Global;
 
 /// The agents of cases, in order.
@@ -53,9 +53,9 @@ pub fn soak_text(alloc: Global, number: u32, rows: &Rows) -> Result<Bytes, NoMem
 fn soak_head(alloc: Global, number: u32) -> Result<Bytes, NoMemory>
     ensures { IfOk result (λ text. text ≡ soak_head number) }
 {
-    let head = format!(in alloc; "soak number={number}\n")?;
     let mut text = Bytes::new(alloc);
-    text.extend(head.as_bytes())?;
+    put_labelled(&mut text, b"soak number=", u64::from(number))?;
+    text.push(b'\n')?;
     Ok(text)
 }
 

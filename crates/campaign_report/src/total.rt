@@ -6,6 +6,7 @@ ghost use Rattle.campaign_report.specs.TableText.{column_sum, sum_text, sums, to
 
 use campaign_core::{Column, Row};
 use ccp_base::{Bytes, NoMemory};
+use report_lines::put_labelled;
 use std::alloc::Global;
 
 /// Appends the total over all cases.
@@ -13,9 +14,7 @@ pub(crate) fn put_total(alloc: Global, text: &mut Bytes, rows: &[Row]) -> Result
     requires { length rows.now ≤ most_cases }
     ensures { OnOk result (text.new ≡ text.old ++ total_line rows.now) }
 {
-    let cases = rows.len();
-    let head = format!(in alloc; "total cases={cases}")?;
-    text.extend(head.as_bytes())?;
+    put_labelled(text, b"total cases=", rows.len() as u64)?;
     put_sums(alloc, text, Column::all(), rows)?;
     text.push(b'\n')?;
     Ok(())

@@ -16,6 +16,7 @@ pub mod Cells
 pub mod LiveText
 pub mod LettersLeft
 pub mod Summaries
+pub mod SummaryLaw
 pub mod Bares
 -- those that only private contracts, invariants and proofs cite
 pub mod ReportWords

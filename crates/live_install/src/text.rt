@@ -45,50 +45,40 @@ fn put_book(alloc: Global, text: &mut Bytes, book: &OpenBook) -> Result<(), NoMe
     ensures { OnOk result (text.new ≡ text.old ++ book_text book.now) }
 {
     let entries = book.entries.as_slice();
-    put_flow(alloc, text, book.case.flow, book.case.name.as_slice())?;
+    put_flow(text, book.case.flow, book.case.name.as_slice())?;
     put_entries(alloc, text, book.installed.as_slice(), entries)?;
     put_changes(alloc, text, book.epochs.as_slice())?;
-    put_faults(alloc, text, entries, book.faults.as_slice())?;
-    put_reports(alloc, text, entries, book.reports.as_slice())?;
-    put_last(alloc, text, book)
+    put_faults(text, entries, book.faults.as_slice())?;
+    put_reports(text, entries, book.reports.as_slice())?;
+    put_last(text, book)
 }
 
-fn put_flow(alloc: Global, text: &mut Bytes, flow: u32, name: &[u8]) -> Result<(), NoMemory>
+fn put_flow(text: &mut Bytes, flow: u32, name: &[u8]) -> Result<(), NoMemory>
     ensures { OnOk result (text.new ≡ text.old ++ flow_line flow name.now) }
 {
-    put_flow_head(alloc, text, flow, name)?;
+    put_flow_head(text, flow, name)?;
     text.push(b'\n')?;
     Ok(())
 }
 
-fn put_faults(
-    alloc: Global,
-    text: &mut Bytes,
-    entries: &[Entry],
-    faults: &[Notice],
-) -> Result<(), NoMemory>
+fn put_faults(text: &mut Bytes, entries: &[Entry], faults: &[Notice]) -> Result<(), NoMemory>
     ensures { OnOk result (text.new ≡ text.old ++ fault_lines (failures_in entries.now faults.now)) }
 {
     let mut left = faults;
     while let Some((notice, rest)) = left.split_first() {
-        put_notice(alloc, text, entries, notice)?;
+        put_notice(text, entries, notice)?;
         left = rest;
     }
     Ok(())
 }
 
-fn put_notice(
-    alloc: Global,
-    text: &mut Bytes,
-    entries: &[Entry],
-    notice: &Notice,
-) -> Result<(), NoMemory>
+fn put_notice(text: &mut Bytes, entries: &[Entry], notice: &Notice) -> Result<(), NoMemory>
     ensures { OnOk result (text.new ≡ text.old ++ placed_line notice.entry.now
         (step_place entries.now notice.entry.now.program notice.entry.now.index)) }
 {
     match place_at(entries, notice.program, notice.index) {
         None => Ok(()),
-        Some(place) => put_fault(alloc, text, notice, place),
+        Some(place) => put_fault(text, notice, place),
     }
 }
 
@@ -104,17 +94,12 @@ fn place_at(entries: &[Entry], step: u32, index: u16) -> Option<Place>
     Some(*place)
 }
 
-fn put_reports(
-    alloc: Global,
-    text: &mut Bytes,
-    entries: &[Entry],
-    reports: &[Report],
-) -> Result<(), NoMemory>
+fn put_reports(text: &mut Bytes, entries: &[Entry], reports: &[Report]) -> Result<(), NoMemory>
     ensures { OnOk result (text.new ≡ text.old ++ shown_lines (map installed_of entries.now) reports.now) }
 {
     let mut left = reports;
     while let Some((report, rest)) = left.split_first() {
-        put_report(alloc, text, fields_at(entries, report.program), report)?;
+        put_report(text, fields_at(entries, report.program), report)?;
         left = rest;
     }
     Ok(())
@@ -140,12 +125,12 @@ fn fields_of<'a>(entry: &'a Entry) -> &'a [Decl]
 }
 
 /// Appends the last line of a flow to a text.
-fn put_last(alloc: Global, text: &mut Bytes, book: &OpenBook) -> Result<(), NoMemory>
+fn put_last(text: &mut Bytes, book: &OpenBook) -> Result<(), NoMemory>
     ensures { OnOk result (text.new ≡ text.old ++ last_line (account_in book.now)) }
 {
     let end = end_in(book);
     let fields = last_fields(book.entries.as_slice(), book.epochs.as_slice());
-    put_end(alloc, text, fields, book.reports.len() as u64, &end)
+    put_end(text, fields, book.reports.len() as u64, &end)
 }
 
 /// The fields of the last epoch's program; none if there is no epoch.

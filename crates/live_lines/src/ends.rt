@@ -4,8 +4,7 @@ ghost use Rattle.flow_core.specs.LiveText.{last_line};
 
 use ccp_base::{Bytes, NoMemory};
 use portus_core::Decl;
-use report_lines::{End, put_end_head, put_end_tail};
-use std::alloc::Global;
+use report_lines::{End, put_end_head, put_end_tail, put_labelled};
 
 /// What the last line of a flow counts beside acknowledgements.
 #[derive(Clone, Copy)]
@@ -18,7 +17,6 @@ pub struct Counts {
 
 /// Appends the last line of a flow, whose last program has these fields.
 pub fn put_last_line(
-    alloc: Global,
     text: &mut Bytes,
     fields: &[Decl],
     counts: Counts,
@@ -27,8 +25,8 @@ pub fn put_last_line(
     ensures { OnOk result (text.new
         ≡ text.old ++ last_line fields.now counts.reports counts.held counts.faults end.now) }
 {
-    put_end_head(alloc, text, counts.reports, end)?;
-    let middle = format!(in alloc; " held={} faults={}", counts.held, counts.faults)?;
-    text.extend(middle.as_bytes())?;
-    put_end_tail(alloc, text, fields, end)
+    put_end_head(text, counts.reports, end)?;
+    put_labelled(text, b" held=", u64::from(counts.held))?;
+    put_labelled(text, b" faults=", counts.faults as u64)?;
+    put_end_tail(text, fields, end)
 }

@@ -4,21 +4,16 @@ ghost use Rattle.flow_core.specs.LiveText.{epoch_text};
 
 use ccp_base::{Bytes, NoMemory};
 use flow_core::EpochLine;
-use std::alloc::Global;
+use report_lines::put_labelled;
 
 /// Appends the line of the epoch with this number.
-pub fn put_epoch_line(
-    alloc: Global,
-    text: &mut Bytes,
-    number: usize,
-    epoch: &EpochLine,
-) -> Result<(), NoMemory>
+pub fn put_epoch_line(text: &mut Bytes, number: usize, epoch: &EpochLine) -> Result<(), NoMemory>
     ensures { OnOk result (text.new ≡ text.old ++ epoch_text number epoch.now) }
 {
-    let line = format!(in alloc;
-        "epoch {number} program={} at={} cwnd={}\n",
-        epoch.program, epoch.at, epoch.cwnd
-    )?;
-    text.extend(line.as_bytes())?;
+    put_labelled(text, b"epoch ", number as u64)?;
+    put_labelled(text, b" program=", u64::from(epoch.program))?;
+    put_labelled(text, b" at=", u64::from(epoch.at))?;
+    put_labelled(text, b" cwnd=", epoch.cwnd)?;
+    text.push(b'\n')?;
     Ok(())
 }

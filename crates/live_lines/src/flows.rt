@@ -5,11 +5,9 @@ ghost use Rattle.flow_core.specs.LiveText.{agent_text, flow_line};
 use agent_core::Agent;
 use ccp_base::{Bytes, Name, NoMemory};
 use report_lines::put_flow_head;
-use std::alloc::Global;
 
 /// Appends the first line of a flow: its number, the name of its case, and its agent's kind.
 pub fn put_flow_line(
-    alloc: Global,
     text: &mut Bytes,
     flow: u32,
     name: &Name,
@@ -17,7 +15,7 @@ pub fn put_flow_line(
 ) -> Result<(), NoMemory>
     ensures { OnOk result (text.new ≡ text.old ++ flow_line flow name.now agent.now) }
 {
-    put_flow_head(alloc, text, flow, name.as_slice())?;
+    put_flow_head(text, flow, name.as_slice())?;
     text.extend(b" agent=")?;
     text.extend(agent_text(agent).as_bytes())?;
     text.push(b'\n')?;

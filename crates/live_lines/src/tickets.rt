@@ -6,12 +6,10 @@ use crate::programs::fields_of;
 use ccp_base::{Bytes, NoMemory, Reply, Told};
 use flow_core::TicketLine;
 use reg_compiler::Built;
-use report_lines::{put_fault_head, put_report_head, put_report_tail};
-use std::alloc::Global;
+use report_lines::{put_fault_head, put_labelled, put_report_head, put_report_tail};
 
 /// Appends the line of the ticket with this number. A report shows the fields of its program, which is among these.
 pub fn put_ticket_line(
-    alloc: Global,
     text: &mut Bytes,
     programs: &[(u32, Built)],
     number: usize,
@@ -19,14 +17,13 @@ pub fn put_ticket_line(
 ) -> Result<(), NoMemory>
     ensures { OnOk result (text.new ≡ text.old ++ ticket_text (sources_of programs.now) number ticket.now) }
 {
-    let head = format!(in alloc; "ticket {number} ")?;
-    text.extend(head.as_bytes())?;
-    put_content(alloc, text, programs, ticket)
+    put_labelled(text, b"ticket ", number as u64)?;
+    text.push(b' ')?;
+    put_content(text, programs, ticket)
 }
 
 /// Appends the ticket's content and answer.
 fn put_content(
-    alloc: Global,
     text: &mut Bytes,
     programs: &[(u32, Built)],
     ticket: &TicketLine,
@@ -36,13 +33,13 @@ fn put_content(
 {
     match &ticket.told {
         Told::Report(report) => {
-            put_report_head(alloc, text, report)?;
-            put_answer(alloc, text, ticket)?;
-            put_report_tail(alloc, text, fields_of(programs, report.program), report)
+            put_report_head(text, report)?;
+            put_answer(text, ticket)?;
+            put_report_tail(text, fields_of(programs, report.program), report)
         }
         Told::Fault(notice) => {
-            put_fault_head(alloc, text, notice.epoch, notice.at)?;
-            put_answer(alloc, text, ticket)?;
+            put_fault_head(text, notice.epoch, notice.at)?;
+            put_answer(text, ticket)?;
             text.push(b'\n')?;
             Ok(())
         }
@@ -50,29 +47,27 @@ fn put_content(
 }
 
 /// Appends the numbers of acknowledgements at which a ticket was taken and answered, and the agent's reply.
-fn put_answer(alloc: Global, text: &mut Bytes, ticket: &TicketLine) -> Result<(), NoMemory>
+fn put_answer(text: &mut Bytes, ticket: &TicketLine) -> Result<(), NoMemory>
     ensures { OnOk result (text.new ≡ text.old ++ answer_text ticket.now) }
 {
-    let counts = format!(in alloc;
-        " taken={} answered={} reply=",
-        ticket.taken, ticket.answered
-    )?;
-    text.extend(counts.as_bytes())?;
-    put_reply(alloc, text, ticket.reply)
+    put_labelled(text, b" taken=", u64::from(ticket.taken))?;
+    put_labelled(text, b" answered=", u64::from(ticket.answered))?;
+    text.extend(b" reply=")?;
+    put_reply(text, ticket.reply)
 }
 
-fn put_reply(alloc: Global, text: &mut Bytes, reply: Reply) -> Result<(), NoMemory>
+fn put_reply(text: &mut Bytes, reply: Reply) -> Result<(), NoMemory>
     ensures { OnOk result (text.new ≡ text.old ++ reply_text reply) }
 {
     match reply {
         Reply::Nothing => text.extend(b"none")?,
         Reply::Update(cwnd) => {
-            let update = format!(in alloc; "update:{cwnd}")?;
-            text.extend(update.as_bytes())?;
+            put_labelled(text, b"update:", cwnd)?;
         }
         Reply::Change { program, cwnd, cap } => {
-            let change = format!(in alloc; "change:{program}:{cwnd}:{cap}")?;
-            text.extend(change.as_bytes())?;
+            put_labelled(text, b"change:", u64::from(program))?;
+            put_labelled(text, b":", cwnd)?;
+            put_labelled(text, b":", cap)?;
         }
     }
     Ok(())

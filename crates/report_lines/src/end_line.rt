@@ -3,9 +3,9 @@ ghost use Rattle.std.specs.Prelude.{◌≡◌, ◌++◌, OnOk};
 ghost use Rattle.report_lines.specs.EndLine.{end_head, end_line, end_tail, span_text, yes_or_no};
 
 use crate::fields_text::{put_fields, put_window};
+use crate::number::put_labelled;
 use ccp_base::{Bytes, NoMemory, Values};
 use portus_core::Decl;
-use std::alloc::Global;
 
 /// How a flow stands at its end.
 #[derive(Clone, Copy)]
@@ -25,57 +25,39 @@ pub struct End {
 }
 
 /// Appends the last line of a flow, whose program has these fields.
-pub fn put_end(
-    alloc: Global,
-    text: &mut Bytes,
-    fields: &[Decl],
-    reports: u64,
-    end: &End,
-) -> Result<(), NoMemory>
+pub fn put_end(text: &mut Bytes, fields: &[Decl], reports: u64, end: &End) -> Result<(), NoMemory>
     ensures { OnOk result (text.new ≡ text.old ++ end_line fields.now reports end.now) }
 {
-    put_end_head(alloc, text, reports, end)?;
-    put_end_tail(alloc, text, fields, end)
+    put_end_head(text, reports, end)?;
+    put_end_tail(text, fields, end)
 }
 
 /// Appends the beginning of the last line: the numbers of acknowledgements and reports.
-pub fn put_end_head(
-    alloc: Global,
-    text: &mut Bytes,
-    reports: u64,
-    end: &End,
-) -> Result<(), NoMemory>
+pub fn put_end_head(text: &mut Bytes, reports: u64, end: &End) -> Result<(), NoMemory>
     ensures { OnOk result (text.new ≡ text.old ++ end_head reports end.now) }
 {
-    let head = format!(in alloc; "end acks={} reports={reports}", end.acks)?;
-    text.extend(head.as_bytes())?;
-    Ok(())
+    put_labelled(text, b"end acks=", end.acks)?;
+    put_labelled(text, b" reports=", reports)
 }
 
 /// Appends the rest of the last line: the unreported span, and the flow's window and fields as they stand.
-pub fn put_end_tail(
-    alloc: Global,
-    text: &mut Bytes,
-    fields: &[Decl],
-    end: &End,
-) -> Result<(), NoMemory>
+pub fn put_end_tail(text: &mut Bytes, fields: &[Decl], end: &End) -> Result<(), NoMemory>
     ensures { OnOk result (text.new ≡ text.old ++ end_tail fields.now end.now) }
 {
-    put_span(alloc, text, end)?;
+    put_span(text, end)?;
     text.extend(b" stopped=")?;
     text.extend(yes_or_no(end.stopped).as_bytes())?;
-    put_window(alloc, text, end.cwnd, end.rate)?;
-    put_fields(alloc, text, fields, &end.fields)?;
+    put_window(text, end.cwnd, end.rate)?;
+    put_fields(text, fields, &end.fields)?;
     text.push(b'\n')?;
     Ok(())
 }
 
-fn put_span(alloc: Global, text: &mut Bytes, end: &End) -> Result<(), NoMemory>
+fn put_span(text: &mut Bytes, end: &End) -> Result<(), NoMemory>
     ensures { OnOk result (text.new ≡ text.old ++ span_text end.now) }
 {
-    let span = format!(in alloc; " tail={}..{}", end.first, end.acks)?;
-    text.extend(span.as_bytes())?;
-    Ok(())
+    put_labelled(text, b" tail=", end.first)?;
+    put_labelled(text, b"..", end.acks)
 }
 
 fn yes_or_no(truth: bool) -> &'static str

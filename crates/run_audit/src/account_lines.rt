@@ -25,7 +25,7 @@ pub fn strip_flow<'a>(
     ensures { IfOk result (IsLeftAfter (flow_line case.now.flow case.now.name case.now.agent) text.now) }
 {
     let mut line = Bytes::new(alloc);
-    put_flow_line(alloc, &mut line, case.flow, &case.name, &case.agent)?;
+    put_flow_line(&mut line, case.flow, &case.name, &case.agent)?;
     Ok(text_after(text, line.as_slice()))
 }
 
@@ -62,7 +62,7 @@ fn strip_epoch<'a>(
     ensures { IfOk result (IsLeftAfter (epoch_text number epoch.now) text.now) }
 {
     let mut line = Bytes::new(alloc);
-    put_epoch_line(alloc, &mut line, number, epoch)?;
+    put_epoch_line(&mut line, number, epoch)?;
     Ok(text_after(text, line.as_slice()))
 }
 
@@ -94,14 +94,7 @@ fn strip_fault<'a>(
     ensures { IfOk result (IsLeftAfter (failure_line (failure_of fault.now)) text.now) }
 {
     let mut line = Bytes::new(alloc);
-    put_fault_line(
-        alloc,
-        &mut line,
-        fault.epoch,
-        fault.at,
-        fault.kind,
-        fault.place,
-    )?;
+    put_fault_line(&mut line, fault.epoch, fault.at, fault.kind, fault.place)?;
     Ok(text_after(text, line.as_slice()))
 }
 
@@ -140,7 +133,7 @@ fn strip_ticket<'a>(
     ensures { IfOk result (IsLeftAfter (ticket_text (sources_of programs.now) number ticket.now) text.now) }
 {
     let mut line = Bytes::new(alloc);
-    put_ticket_line(alloc, &mut line, programs, number, ticket)?;
+    put_ticket_line(&mut line, programs, number, ticket)?;
     Ok(text_after(text, line.as_slice()))
 }
 
@@ -160,6 +153,6 @@ pub fn strip_end<'a>(
         faults: account.faults.len(),
     };
     let fields = fields_of(programs, account.program);
-    put_last_line(alloc, &mut line, fields, counts, &account.end)?;
+    put_last_line(&mut line, fields, counts, &account.end)?;
     Ok(text_after(text, line.as_slice()))
 }
