@@ -45,9 +45,6 @@ module _ (times : List ℕ) (trace : IsTrace times) where
     pub gone_past : line.later.at ≤ time → (j : ℕ) → j < chance_number times line.later.chance + 1 → chance_time times j ≤ time
     gone_past gone j under = omega (arith, gone, is.later.at, chance_time_rises times trace j (chance_number times line.later.chance) (omega (arith, under)))
 
-    pub later_soon : 0 < line.waiting → chance_time times (chance_number times line.later.chance + 1) ≤ line.next.at
-    later_soon some = omega (arith, is.next.at, chance_time_rises times trace (chance_number times line.later.chance + 1) (chance_number times line.next.chance) (omega (arith, some, is.waiting)))
-
     pub later_first : line.later.at ≤ line.next.at
     later_first = omega (arith, is.next.at, is.later.at, chance_time_rises times trace (chance_number times line.later.chance) (chance_number times line.next.chance) (omega (arith, is.waiting)))
 

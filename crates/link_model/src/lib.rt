@@ -1,6 +1,7 @@
 //! The virtual link: traces, the case of a link, and the link that answers a window with an acknowledgement.
 #![tactic(auto)]
 
+mod allowed;
 mod arrival;
 mod chance;
 mod line;

@@ -36,93 +36,85 @@ impl Line {
         }
     }
 
-    /// The line at the time `now`, in microseconds, without the chances that are gone by then.
+    /// Takes the chances out that are gone by at the time `now`, in microseconds.
     #[inline(always)]
-    pub(crate) fn move_to(self, trace: &Trace, now: u64) -> Line
+    pub(crate) fn move_to(&mut self, trace: &Trace, now: u64)
         requires valid { IsTrace trace.now }
-        requires line { IsLine trace.now now self }
-        ensures line { IsLine trace.now now result }
-        ensures moved { IsMovedTo now result }
-        ensures next { result.next ≡ self.next }
+        requires line { IsLine trace.now now self.old }
+        requires time { now + search_reach < 2 ^ 64 }
+        ensures line { IsLine trace.now now self.new }
+        ensures moved { IsMovedTo now self.new }
+        ensures next { self.new.next ≡ self.old.next }
     {
-        let mut line = self;
-        while line.waiting > 0 && line.later.at <= now {
-            line = line.pass_one(trace, now);
+        while self.waiting > 0 && self.later.at <= now {
+            self.pass_one(trace, now);
         }
-        line
     }
 
-    /// The line without its chance `later`, which is gone by at the time `now`.
+    /// Takes the chance `later` out, which is gone by at the time `now`.
     #[inline(always)]
-    fn pass_one(self, trace: &Trace, now: u64) -> Line
+    fn pass_one(&mut self, trace: &Trace, now: u64)
         requires valid { IsTrace trace.now }
-        requires line { IsLine trace.now now self }
-        requires some { 0 < self.waiting }
-        requires gone { self.later.at ≤ now }
-        ensures line { IsLine trace.now now result }
-        ensures next { result.next ≡ self.next }
-        ensures fewer { result.waiting + 1 ≡ self.waiting }
+        requires line { IsLine trace.now now self.old }
+        requires some { 0 < self.old.waiting }
+        requires gone { self.old.later.at ≤ now }
+        requires time { now + search_reach < 2 ^ 64 }
+        ensures line { IsLine trace.now now self.new }
+        ensures next { self.new.next ≡ self.old.next }
+        ensures fewer { self.new.waiting + 1 ≡ self.old.waiting }
     {
         let _ = now;
-        Line {
-            next: self.next,
-            later: trace.next_chance(self.later),
-            waiting: self.waiting - 1,
-        }
+        self.later = trace.next_chance(self.later);
+        self.waiting -= 1;
     }
 
-    /// The line whose next chance isn't before `now`, in microseconds: chances before then that no packet has are left
-    /// out.
+    /// Moves the next chance on to one that isn't before `now`, in microseconds: chances before then that no packet has
+    /// are left out.
     #[inline(always)]
-    pub(crate) fn advance_to(self, trace: &Trace, now: u64) -> Line
+    pub(crate) fn advance_to(&mut self, trace: &Trace, now: u64)
         requires valid { IsTrace trace.now }
-        requires line { IsLine trace.now now self }
-        requires moved { IsMovedTo now self }
+        requires line { IsLine trace.now now self.old }
+        requires moved { IsMovedTo now self.old }
         requires time { now + search_reach < 2 ^ 64 }
-        ensures line { IsLine trace.now now result }
-        ensures moved { IsMovedTo now result }
-        ensures next { chance_number trace.now result.next.chance ≡ due_number trace.now self now }
-        ensures waiting { result.waiting ≡ self.waiting }
-        ensures late { now ≤ result.next.at }
-        ensures order { self.next.at ≤ result.next.at }
+        ensures line { IsLine trace.now now self.new }
+        ensures moved { IsMovedTo now self.new }
+        ensures next { chance_number trace.now self.new.next.chance ≡ due_number trace.now self.old now }
+        ensures waiting { self.new.waiting ≡ self.old.waiting }
+        ensures late { now ≤ self.new.next.at }
+        ensures order { self.old.next.at ≤ self.new.next.at }
     {
         if self.next.at >= now {
-            return self;
+            return;
         }
+        // No packet waits here, so `waiting` stays 0.
         let next = trace.first_due(self.next, now);
-        Line {
-            next,
-            later: next,
-            waiting: 0,
-        }
+        self.next = next;
+        self.later = next;
     }
 
-    /// The line after a packet that was sent at `now`, in microseconds, got its next chance.
+    /// Gives the next chance to a packet that was sent at `now`, in microseconds.
     #[inline(always)]
-    pub(crate) fn take_chance(self, trace: &Trace, now: u64) -> Line
+    pub(crate) fn take_chance(&mut self, trace: &Trace, now: u64)
         requires valid { IsTrace trace.now }
-        requires line { IsLine trace.now now self }
-        requires moved { IsMovedTo now self }
-        requires late { now ≤ self.next.at }
-        requires time { self.next.at + search_reach < 2 ^ 64 }
-        requires few { self.waiting < most_flight }
-        ensures line { IsLine trace.now now result }
-        ensures moved { IsMovedTo now result }
-        ensures next { chance_number trace.now result.next.chance ≡ chance_number trace.now self.next.chance + 1 }
-        ensures order { self.next.at ≤ result.next.at }
+        requires line { IsLine trace.now now self.old }
+        requires moved { IsMovedTo now self.old }
+        requires late { now ≤ self.old.next.at }
+        requires time { self.old.next.at + search_reach < 2 ^ 64 }
+        requires few { self.old.waiting < most_flight }
+        ensures line { IsLine trace.now now self.new }
+        ensures moved { IsMovedTo now self.new }
+        ensures next { chance_number trace.now self.new.next.chance
+            ≡ chance_number trace.now self.old.next.chance + 1 }
+        ensures order { self.old.next.at ≤ self.new.next.at }
     {
+        let own = self.next.at;
         let next = trace.next_chance(self.next);
-        if self.next.at > now {
-            return Line {
-                next,
-                later: self.later,
-                waiting: self.waiting + 1,
-            };
+        self.next = next;
+        if own > now {
+            self.waiting += 1;
+            return;
         }
-        Line {
-            next,
-            later: next,
-            waiting: 0,
-        }
+        // The chance comes now, so no packet waits.
+        self.later = next;
     }
 }

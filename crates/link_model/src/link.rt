@@ -5,6 +5,7 @@ ghost use Rattle.link_model.specs.Traces.{IsTrace};
 ghost use Rattle.link_model.specs.Standing.{Stands, IsAnswer, StandsOn};
 ghost use Rattle.link_model.specs.LinkMoves.{next_ack, next_standing};
 
+use crate::allowed::Allowed;
 use crate::link_case::LinkCase;
 use crate::traffic::Traffic;
 use ccp_base::{Ack, NoMemory};
@@ -16,9 +17,12 @@ use std::marker::Model;
 pub struct Link {
     case: LinkCase,
     traffic: Traffic,
+    allowed: Allowed,
 }
 
 impl Model for Link {
+    ghost use Rattle.std.specs.Prelude.{◌≡◌};
+    ghost use Rattle.link_model.specs.Link.{allowance};
     ghost use Rattle.link_model.specs.Standing.{LinkState};
     ghost use Rattle.link_model.specs.LinkMoves.{standing_in};
     ghost use Rattle.link_model.specs.Horizon.{IsKept, IsCounted};
@@ -27,7 +31,8 @@ impl Model for Link {
 
     ghost view = { λ l. record { case = l.case; standing = standing_in l.case.trace l.traffic } };
 
-    ghost invariant = { λ l. IsKept l.case l.traffic × IsCounted l.traffic };
+    ghost invariant = { λ l. IsKept l.case l.traffic × IsCounted l.traffic
+        × (l.allowed.packets ≡ allowance l.case l.allowed.window) };
 }
 
 impl Link {
@@ -38,7 +43,12 @@ impl Link {
         ensures calls { IfOk result (λ link. link.standing.calls ≡ 0) }
     {
         let traffic = Traffic::new(alloc, &case)?;
-        Ok(Link { case, traffic })
+        let allowed = Allowed::none(&case);
+        Ok(Link {
+            case,
+            traffic,
+            allowed,
+        })
     }
 
     /// How many windows the link was given.
@@ -76,10 +86,8 @@ impl Link {
         ensures standing { self.new.standing ≡ next_standing self.old.case window self.old.standing }
         ensures calls { self.new.standing.calls ≡ self.old.standing.calls + 1 }
     {
-        let more = self
-            .case
-            .allowance(window)
-            .saturating_sub(self.traffic.in_flight);
+        let most = self.allowed.by(&self.case, window);
+        let more = most.saturating_sub(self.traffic.in_flight);
         self.traffic.send(&self.case, more);
         self.traffic.acknowledge(&self.case)
     }

@@ -84,7 +84,8 @@ impl Traffic {
         if more == 0 {
             return;
         }
-        self.line = self.line.move_to(&case.trace, self.time);
+        let now = self.time;
+        self.line.move_to(&case.trace, now);
         let mut left = more;
         while left > 0 {
             left = self.send_some(case, left);
@@ -161,18 +162,19 @@ impl Traffic {
         ensures acked { self.new.acked ≡ self.old.acked }
         ensures calls { self.new.calls ≡ self.old.calls }
     {
-        let line = self.line.advance_to(&case.trace, self.time);
+        let now = self.time;
+        self.line.advance_to(&case.trace, now);
         let arrival = Arrival {
             lost: self.lost,
-            sent_at: self.time,
-            at: line.next.at + case.delay_us,
-            marked: case.marks(u128::from(line.waiting)),
+            sent_at: now,
+            at: self.line.next.at + case.delay_us,
+            marked: case.marks(u128::from(self.line.waiting)),
         };
         put_in_flight(&mut self.flight, arrival);
         self.lost = 0;
         self.in_flight += 1;
         self.sent += 1;
-        self.line = line.take_chance(&case.trace, self.time);
+        self.line.take_chance(&case.trace, now);
     }
 
     /// Acknowledges the first packet in flight that isn't lost, or times out if there is none.

@@ -2,8 +2,8 @@ use Rattle.std.proofs.Common.{◌≡◌}
 use Rattle.link_model.specs.Lines.{IsLine}
 use Rattle.link_model.proofs.line.Line.move_to.Given as goal
 
-abbrev pub invariant-loop-line : goal.invariant-loop-line
-invariant-loop-line l = IsLine l.trace l.now l.line × (l.line.next ≡ l.fn.self.next)
+abbrev pub invariant-loop-self : goal.invariant-loop-self
+invariant-loop-self l = IsLine l.trace l.now l.self × (l.self.next ≡ l.fn.self.next)
 
-abbrev pub decreases-loop-line : goal.decreases-loop-line
-decreases-loop-line l = l.line.waiting
+abbrev pub decreases-loop-self : goal.decreases-loop-self
+decreases-loop-self l = l.self.waiting

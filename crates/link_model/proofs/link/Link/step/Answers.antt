@@ -11,4 +11,5 @@ invariant_of-self c =
         sent = omega (arith, sent, c.send.ensures.sent, c.acknowledge.ensures.sent, c.acknowledge.ensures.calls);
         acked = c.acknowledge.ensures.acked;
       },
+      c.by-most.ensures.kept,
     )
