@@ -8,6 +8,5 @@ pub mod RunnableLemmas
 pub mod RefinementLemmas
 pub mod FormLemmas
 pub mod RunLemmas
-pub mod ConditionLemmas
 pub mod WorkLemmas
 pub mod MachineLemmas
