@@ -1,6 +1,7 @@
 -- What RFC 9438 asks of a sender, said of CUBIC after all that it may be told.
 use Rattle.std.specs.Prelude.{◌≡◌, ℕ, ◌+◌, ◌*◌, ◌/◌, ◌<◌, ◌≤◌, max, List, [], ◌∷◌}
 use Rattle.ccp_base.specs.Limits.{most_segment_bytes, most_flight}
+use Rattle.ccp_base.specs.Saturating.{◌+ˢ◌}
 use Rattle.ccp_base.specs.Measurement.{measurement_of}
 use Rattle.ccp_base.specs.Course.{role_of}
 use Rattle.ccp_base.specs.declared.look.Role.{Role}
@@ -38,7 +39,19 @@ abbrev pub Always : (CubicState → Measurement → Reply → Type 0) → Type 0
 Always P = (mss : ℕ) (ss ca : Role) (tolds : List Told) (report : Report) → IsSegment mss
     → P (cubic_told mss ss ca tolds) (read_by (cubic_told mss ss ca tolds) report) (reply_to (cubic_told mss ss ca tolds) report)
 
+-- the same of a report of the agent's epoch
+abbrev pub AlwaysHeard : (CubicState → Measurement → Reply → Type 0) → Type 0
+AlwaysHeard P = (mss : ℕ) (ss ca : Role) (tolds : List Told) (report : Report) → IsSegment mss
+    → report.epoch ≡ (cubic_told mss ss ca tolds).course.epoch
+    → P (cubic_told mss ss ca tolds) (read_by (cubic_told mss ss ca tolds) report) (reply_to (cubic_told mss ss ca tolds) report)
+
 -- ---- replies
+
+-- the reply isn't nothing
+abbrev pub IsSomething : Reply → Type 0
+IsSomething Nothing = ⊥
+IsSomething (Update window) = Unit {0}
+IsSomething (Change program window cap) = Unit {0}
 
 -- if the reply is an update, its window has this property
 abbrev pub IfUpdate : (ℕ → Type 0) → Reply → Type 0
@@ -128,3 +141,23 @@ Restarts s r reply =
 -- a change comes at the end of the loss event that was answered last, or later
 abbrev pub IsCalm : CubicState → Measurement → Reply → Type 0
 IsCalm s r reply = IfChange (λ program window cap. s.calm ≤ r.now) reply
+
+-- what is told has no timeout
+abbrev pub IsTimely : CubicState → Told → Type 0
+IsTimely s (told.Report report) = (read_by s report).timeout ≡ 0
+IsTimely s (told.Fault notice) = Unit {0}
+
+abbrev pub AreTimely : CubicState → List Told → Type 0
+AreTimely s [] = Unit {0}
+AreTimely s (first ∷ later) = IsTimely s first × AreTimely (cubic s first).0 later
+
+-- within one round-trip time of a loss that was answered, and without a timeout meanwhile, no report is answered by a
+-- change
+abbrev pub IsOnce : CubicState → Type 0
+IsOnce s = (loss next : Report) (between : List Told)
+    → let answered = (cubic s (told.Report loss)).0 in
+    let later = after_all answered between in
+    ShowsLoss (read_by s loss) → IsSomething (reply_to s loss)
+    → AreTimely answered between → (read_by later next).timeout ≡ 0
+    → (read_by later next).now < ((read_by s loss).now +ˢ (read_by s loss).rtt)
+    → IfChange (λ program window cap. ⊥) (reply_to later next)

@@ -1,6 +1,6 @@
 -- Reno keeps to RFC 5681, case by case of its definition.
-use Rattle.std.proofs.Common.{◌≡◌, ℕ, ◌+◌, ◌*◌, ◌/◌, ◌<◌, ◌≤◌, ◌==◌, ◌||◌, Bool, true, false, List, [], ◌∷◌, refl, sym, subst, arith}
-use Rattle.std.specs.Prelude.{nat_lt, nat_le, max, if◌then◌else◌}
+use Rattle.std.proofs.Common.{◌≡◌, ℕ, ◌+◌, ◌*◌, ◌/◌, ◌^◌, ◌<◌, ◌≤◌, ◌==◌, ◌||◌, Bool, true, false, List, [], ◌∷◌, refl, sym, subst, arith}
+use Rattle.std.specs.Prelude.{◌-◌, nat_lt, nat_le, max, if◌then◌else◌}
 use Rattle.std.proofs.Math.Nat.{div-le_of_le-mul, mul-le-mul_left, mul_comm}
 use Rattle.std.proofs.lemmas.Bool.Decides.{nat_tests}
 use Rattle.ccp_base.specs.Limits.{most_flight}
@@ -13,11 +13,11 @@ use Rattle.ccp_base.specs.declared.course.Phase.{Phase}
 use Rattle.ccp_base.specs.declared.course.Phase.TheVariants.{SlowStart, Avoidance}
 use Rattle.ccp_base.specs.declared.exchange.Report.{Report}
 use Rattle.ccp_base.specs.declared.exchange.Reply.{Reply}
-use Rattle.ccp_base.specs.declared.exchange.Reply.TheVariants.{Nothing}
+use Rattle.ccp_base.specs.declared.exchange.Reply.TheVariants.{Nothing, Update, Change}
 use Rattle.ccp_base.specs.declared.exchange.Told.{Told}
 use Rattle.ccp_base.specs.declared.exchange.Told.TheVariants as told
 use Rattle.reno_agent.specs.Reno.{RenoState, Replied, reno, first_reno, clamped_window, halved_flight, after_timeout, after_loss, in_slow_start, in_avoidance, in_phase, after_measurement, window_told, after_fault, after_told}
-use Rattle.reno_agent.specs.RenoLaws.{IsSegment, after_all, reno_told, read_by, reply_to, IsWindow, IsBounded, SetsWindow, IsGrowth, Grows, IsCut, ShowsLoss, Halves, Restarts, IsCalm}
+use Rattle.reno_agent.specs.RenoLaws.{IsSegment, after_all, reno_told, read_by, reply_to, IsSomething, IfChange, IsWindow, IsBounded, SetsWindow, IsGrowth, Grows, IsCut, ShowsLoss, Halves, Restarts, IsCalm, IsTimely, AreTimely, IsOnce}
 
 -- ---- tests
 
@@ -316,6 +316,131 @@ calm_heard : (s : RenoState) (report : Report) → (s.course.mode ≡ SlowStart 
 calm_heard s report start none =
     heard_if (IsCalm s (read_by s report)) s report (calm_measured s.course.mode (read_by s report) s start none) tt
 
+-- ---- what is answered
+
+is_before : (now calm : ℕ) → calm ≤ now → nat_lt now calm ≡ false
+is_before now calm past = grind (arith, nat_tests)
+
+is_same : (a b : ℕ) → a ≡ b → (a == b) ≡ true
+is_same a b same = grind (arith, nat_tests)
+
+loss_heeded : (r : Measurement) (s : RenoState) → ShowsLoss r → s.calm ≤ r.now → IsSomething (after_measurement r s).1
+loss_heeded r s shown past =
+    reply_unless IsSomething (nat_lt 0 r.timeout) (after_timeout r s) _ (none_below r.timeout shown.0)
+    (reply_when IsSomething (nat_lt 0 r.loss || nat_lt 0 r.ecn) (after_loss r s) (in_phase s.course.mode r s) (one_shown r.loss r.ecn shown.1)
+    (reply_unless IsSomething (nat_lt r.now s.calm) (s, Nothing) _ (is_before r.now s.calm past) tt))
+
+timeout_heeded : (r : Measurement) (s : RenoState) → 0 < r.timeout → IsSomething (after_measurement r s).1
+timeout_heeded r s out = reply_when IsSomething (nat_lt 0 r.timeout) (after_timeout r s) _ (some_below r.timeout out) tt
+
+told_calm : (mode : Phase) (r : Measurement) (s : RenoState) → (window_told mode r s).calm ≡ s.calm
+told_calm SlowStart r s = refl
+told_calm Avoidance r s = refl
+
+heeds : (s : RenoState) (report : Report) → report.epoch ≡ s.course.epoch → IsSomething (after_told (told.Report report) s).1
+    → IsSomething (reply_to s report)
+heeds s report same heeded =
+    reply_when IsSomething (report.epoch == s.course.epoch) (after_told (told.Report report) s) (s, Nothing)
+    (is_same report.epoch s.course.epoch same) heeded
+
+-- ---- one change in a round-trip time
+
+module _ (time : ℕ) (fits : time ≤ 2 ^ 64 - 1) where
+  abbrev IsPast : Replied → Type 0
+  IsPast turn = time ≤ turn.0.calm
+
+  past_if : (test : Bool) (a b : Replied) → IsPast a → IsPast b → IsPast (if test then a else b)
+  past_if true a b one other = one
+  past_if false a b one other = other
+
+  past_later : (before : Bool) (now calm : ℕ) (a b : Replied) → nat_lt now calm ≡ before → IsPast a → (calm ≤ now → IsPast b)
+      → IsPast (if before then a else b)
+  past_later true now calm a b is early late = early
+  past_later false now calm a b is early late = late (not_before now calm is)
+
+  past_loss : (r : Measurement) (s : RenoState) → time ≤ s.calm → IsPast (after_loss r s)
+  past_loss r s h = past_later (nat_lt r.now s.calm) r.now s.calm _ _ refl h (λ past. omega (arith, fits, h, past))
+
+  past_phase : (mode : Phase) (r : Measurement) (s : RenoState) → time ≤ s.calm → IsPast (in_phase mode r s)
+  past_phase SlowStart r s h = past_if (nat_le s.ssthresh r.cwnd) _ _ h h
+  past_phase Avoidance r s h = past_if (r.acked == 0) _ _ h h
+
+  past_measured : (r : Measurement) (s : RenoState) → r.timeout ≡ 0 → time ≤ s.calm → IsPast (after_measurement r s)
+  past_measured r s none h =
+      subst
+      (λ (out : Bool). IsPast (if out then after_timeout r s else if nat_lt 0 r.loss || nat_lt 0 r.ecn then after_loss r s else in_phase s.course.mode r s))
+      (sym (none_below r.timeout none))
+      (past_if (nat_lt 0 r.loss || nat_lt 0 r.ecn) _ _ (past_loss r s h) (past_phase s.course.mode r s h))
+
+  past_window : (mode : Phase) (r : Measurement) (s : RenoState) → time ≤ s.calm → time ≤ (window_told mode r s).calm
+  past_window SlowStart r s h = h
+  past_window Avoidance r s h = h
+
+  past_told : (heard : Told) (s : RenoState) → IsTimely s heard → time ≤ s.calm → IsPast (after_told heard s)
+  past_told (told.Report report) s none h =
+      let r = measurement_of (role_of s.course.mode s.course).look report in
+      past_measured r (window_told s.course.mode r s) none (past_window s.course.mode r s h)
+  past_told (told.Fault notice) s none h = h
+
+  past_turn : (heard : Told) (s : RenoState) → IsTimely s heard → time ≤ s.calm → IsPast (reno s heard)
+  past_turn heard s none h = past_if (told_epoch heard == s.course.epoch) _ _ (past_told heard s none h) h
+
+  past_all : (tolds : List Told) (s : RenoState) → AreTimely s tolds → time ≤ s.calm → time ≤ (after_all s tolds).calm
+  past_all [] s none h = h
+  past_all (first ∷ later) s none h = past_all later (reno s first).0 none.1 (past_turn first s none.0 h)
+
+-- a reply that isn't nothing leaves the agent calm up to this time
+abbrev CalmTo : ℕ → Replied → Type 0
+CalmTo time turn = IsSomething turn.1 → time ≤ turn.0.calm
+
+calm_to_if : (time : ℕ) (test : Bool) (a b : Replied) → CalmTo time a → CalmTo time b → CalmTo time (if test then a else b)
+calm_to_if time true a b one other = one
+calm_to_if time false a b one other = other
+
+calm_to_unless : (time : ℕ) (test : Bool) (a b : Replied) → test ≡ false → CalmTo time b → CalmTo time (if test then a else b)
+calm_to_unless time test a b fails other = subst (λ (t : Bool). CalmTo time (if t then a else b)) (sym fails) other
+
+calm_to_when : (time : ℕ) (test : Bool) (a b : Replied) → test ≡ true → CalmTo time a → CalmTo time (if test then a else b)
+calm_to_when time test a b holds one = subst (λ (t : Bool). CalmTo time (if t then a else b)) (sym holds) one
+
+none_said : (time : ℕ) (s : RenoState) → CalmTo time (s, Nothing)
+none_said time s bad = absurd bad
+
+calm_to_loss : (r : Measurement) (s : RenoState) → ShowsLoss r → CalmTo (r.now +ˢ r.rtt) (after_measurement r s)
+calm_to_loss r s shown =
+    let time = r.now +ˢ r.rtt in
+    calm_to_unless time (nat_lt 0 r.timeout) (after_timeout r s) _ (none_below r.timeout shown.0)
+    (calm_to_when time (nat_lt 0 r.loss || nat_lt 0 r.ecn) (after_loss r s) (in_phase s.course.mode r s) (one_shown r.loss r.ecn shown.1)
+    (calm_to_if time (nat_lt r.now s.calm) _ _ (none_said time s) (λ some. omega arith)))
+
+calm_to_heard : (s : RenoState) (loss : Report) → ShowsLoss (read_by s loss)
+    → CalmTo ((read_by s loss).now +ˢ (read_by s loss).rtt) (reno s (told.Report loss))
+calm_to_heard s loss shown =
+    let r = read_by s loss in
+    calm_to_if (r.now +ˢ r.rtt) (loss.epoch == s.course.epoch) _ _ (calm_to_loss r (window_told s.course.mode r s) shown)
+    (none_said (r.now +ˢ r.rtt) s)
+
+sum_fits : (a b : ℕ) → (a +ˢ b) ≤ 2 ^ 64 - 1
+sum_fits a b = omega arith
+
+-- a reply that comes at this time, before a later one, isn't a change
+no_change : (now time calm : ℕ) (reply : Reply) → now < time → time ≤ calm → IfChange (λ program window cap. calm ≤ now) reply
+    → IfChange (λ program window cap. ⊥) reply
+no_change now time calm Nothing early past late = tt
+no_change now time calm (Update window) early past late = tt
+no_change now time calm (Change program window cap) early past late = omega (arith, early, past, late)
+
+is_once : (mss : ℕ) → IsSegment mss → (s : RenoState) → IsReached mss s → IsOnce s
+is_once mss segment s h loss next between shown some timely none early =
+    let answered = (reno s (told.Report loss)).0 in
+    let later = after_all answered between in
+    let r = read_by s loss in
+    let time = r.now +ˢ r.rtt in
+    let reached_later = reached_all mss segment between answered (turn mss segment (told.Report loss) s h).state in
+    let past = past_all time (sum_fits r.now r.rtt) between answered timely (calm_to_heard s loss shown some) in
+    no_change (read_by later next).now time later.calm (reply_to later next) early past
+    (calm_heard later next reached_later.calm none)
+
 -- ---- after all that an agent may be told
 
 module _ (mss : ℕ) (segment : IsSegment mss) (ss ca : Role) (tolds : List Told) (report : Report) where
@@ -341,3 +466,19 @@ module _ (mss : ℕ) (segment : IsSegment mss) (ss ca : Role) (tolds : List Told
 
   pub is_calm : (read_by agent report).timeout ≡ 0 → IsCalm agent (read_by agent report) (reply_to agent report)
   is_calm none = calm_heard agent report (reached mss segment ss ca tolds).calm none
+
+  pub answers_loss : report.epoch ≡ agent.course.epoch → ShowsLoss (read_by agent report) → agent.calm ≤ (read_by agent report).now
+      → IsSomething (reply_to agent report)
+  answers_loss same shown past =
+      let r = read_by agent report in
+      let turned = window_told agent.course.mode r agent in
+      heeds agent report same
+      (loss_heeded r turned shown (subst (λ (calm : ℕ). calm ≤ r.now) (sym (told_calm agent.course.mode r agent)) past))
+
+  pub answers_timeout : report.epoch ≡ agent.course.epoch → 0 < (read_by agent report).timeout → IsSomething (reply_to agent report)
+  answers_timeout same out =
+      let r = read_by agent report in
+      heeds agent report same (timeout_heeded r (window_told agent.course.mode r agent) out)
+
+pub once : (mss : ℕ) → IsSegment mss → (ss ca : Role) (tolds : List Told) → IsOnce (reno_told mss ss ca tolds)
+once mss segment ss ca tolds = is_once mss segment (reno_told mss ss ca tolds) (reached mss segment ss ca tolds)
