@@ -5,3 +5,5 @@ pub mod Cubic
 -- those that they are made of
 pub mod Window
 pub mod Curve
+-- what follows from them
+pub mod CubicLaws

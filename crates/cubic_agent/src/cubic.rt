@@ -146,6 +146,13 @@ impl Cubic {
         ensures ss { self.new.course.ss ≡ self.old.course.ss }
         ensures ca { self.new.course.ca ≡ self.old.course.ca }
     {
+        self.take_turn(told)
+    }
+
+    /// The agent after a report or a fault notice, and its reply.
+    fn take_turn(&mut self, told: &Told) -> Reply
+        ensures { (self.new, result) ≡ cubic self.old told.now }
+    {
         if told.epoch() != self.course.epoch {
             return Reply::Nothing;
         }

@@ -3,6 +3,8 @@
 
 mod cubic;
 mod curve;
+mod laws;
 mod window;
 
 pub use cubic::{Cubic, Growth};
+pub use laws::{calm_law, growth_law, loss_law, timeout_law, windows_law};

@@ -1,2 +1,3 @@
 -- The lemmas of reno_agent, a file a topic.
 pub mod RoleLemmas
+pub mod LawLemmas
