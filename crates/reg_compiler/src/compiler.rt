@@ -1,6 +1,7 @@
 //! The call of the compiler: a program becomes code that simulates it, or is refused.
-ghost use Rattle.std.specs.Prelude.{◌≡◌, ◌≢◌, ◌≤◌, IfOk, IfErr, Some, None, length};
+ghost use Rattle.std.specs.Prelude.{◌≡◌, ◌≢◌, ◌≤◌, IfOk, IfErr, Err, Some, None, length};
 ghost use Rattle.portus_core.specs.ProgramForm.{form_of};
+ghost use Rattle.reg_compiler.specs.declared.fault.CompileFault.{CompileFault};
 ghost use Rattle.reg_compiler.specs.declared.fault.CompileFault.TheVariants.{NoMemory};
 ghost use Rattle.reg_compiler.specs.Counts.{form_count, lean};
 ghost use Rattle.reg_compiler.specs.Refusal.{refusal_of};
@@ -19,6 +20,7 @@ pub fn compile(alloc: Global, program: Program) -> Result<Built, CompileFault>
     ensures program { IfOk result (λ built. built.program ≡ program) }
     ensures found { IfOk result (λ built. refusal_of (form_of program) ≡ None) }
     ensures refused { IfErr result (λ e. e ≢ NoMemory → refusal_of (form_of program) ≡ Some e) }
+    ensures first { (e : CompileFault) → refusal_of (form_of program) ≡ Some e → result ≡ Err e }
     ensures within { IfOk result (λ built. length built.code.code.instrs ≤ form_count (form_of program)) }
     ensures lean { IfOk result (λ built. length built.code.code.instrs ≤ lean (form_of program)) }
 {
