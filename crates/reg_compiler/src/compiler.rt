@@ -3,6 +3,7 @@ ghost use Rattle.std.specs.Prelude.{◌≡◌, ◌≢◌, ◌≤◌, IfOk, IfErr
 ghost use Rattle.portus_core.specs.ProgramForm.{form_of};
 ghost use Rattle.reg_compiler.specs.declared.fault.CompileFault.{CompileFault};
 ghost use Rattle.reg_compiler.specs.declared.fault.CompileFault.TheVariants.{NoMemory};
+ghost use Rattle.reg_compiler.specs.CompiledCode.{code_of, places_of};
 ghost use Rattle.reg_compiler.specs.Counts.{form_count, lean};
 ghost use Rattle.reg_compiler.specs.Refusal.{refusal_of};
 
@@ -21,6 +22,8 @@ pub fn compile(alloc: Global, program: Program) -> Result<Built, CompileFault>
     ensures found { IfOk result (λ built. refusal_of (form_of program) ≡ None) }
     ensures refused { IfErr result (λ e. e ≢ NoMemory → refusal_of (form_of program) ≡ Some e) }
     ensures first { (e : CompileFault) → refusal_of (form_of program) ≡ Some e → result ≡ Err e }
+    ensures code { IfOk result (λ built. built.code.code ≡ code_of (form_of program)) }
+    ensures places { IfOk result (λ built. built.places ≡ places_of (form_of program)) }
     ensures within { IfOk result (λ built. length built.code.code.instrs ≤ form_count (form_of program)) }
     ensures lean { IfOk result (λ built. length built.code.code.instrs ≤ lean (form_of program)) }
 {
