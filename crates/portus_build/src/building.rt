@@ -1,10 +1,15 @@
 //! The build of a program's text: read, scoped and compiled, or the text's first refusal.
-ghost use Rattle.std.specs.Prelude.{◌≡◌, ◌≢◌, ◌≤◌, IfOk, IfErr, MatchResult, length};
+ghost use Rattle.std.specs.Prelude.{◌≡◌, ◌≢◌, ◌<◌, ◌≤◌, IfOk, IfErr, MatchResult, Err, Some, length};
+ghost use Rattle.ccp_base.specs.Limits.{most_text_bytes};
+ghost use Rattle.ccp_base.specs.declared.place.Place.{Place};
 ghost use Rattle.portus_core.specs.Programs.{Form};
 ghost use Rattle.portus_core.specs.ProgramForm.{form_of};
+ghost use Rattle.portus_lexer.specs.Strays.{stray_of};
+ghost use Rattle.portus_parser.specs.declared.fault.ParseFault.TheVariants as reading;
+ghost use Rattle.reg_compiler.specs.CompiledCode.{code_of, places_of};
 ghost use Rattle.reg_compiler.specs.Counts.{form_count, lean};
 ghost use Rattle.portus_build.specs.declared.fault.BuildFault.{BuildFault};
-ghost use Rattle.portus_build.specs.declared.fault.BuildFault.TheVariants.{NoMemory};
+ghost use Rattle.portus_build.specs.declared.fault.BuildFault.TheVariants.{Parse, NoMemory};
 ghost use Rattle.portus_build.specs.Outcomes.{RefusesAs};
 ghost use Rattle.portus_build.specs.Texts.{IsNoProgram, IsBuiltFrom};
 ghost use Rattle.portus_build.specs.Settled.{IsSettled};
@@ -27,8 +32,17 @@ pub fn build(alloc: Global, text: &[u8]) -> Result<Built, BuildFault>
     ensures refused { IfErr result (λ e. e ≢ NoMemory → IsNoProgram text.now e) }
     ensures first { (refusal : BuildFault) → IsNoProgram text.now refusal → RefusesAs result refusal }
 
+    // A text that is too long, or has a stray byte, is refused for it with or without memory.
+    ensures long { most_text_bytes < length text.now → result ≡ Err (Parse reading.SourceTooLong) }
+    ensures stray { (place : Place) → length text.now ≤ most_text_bytes → stray_of text.now ≡ Some place
+        → result ≡ Err (Parse (reading.NotText place)) }
+
     // A text stands for one program that is compiled or has one first refusal, and not both.
     ensures settled { IsSettled text.now }
+
+    // The code and its places are those of the definition, a function of the program.
+    ensures code { IfOk result (λ built. built.code.code ≡ code_of (form_of built.program)) }
+    ensures places { IfOk result (λ built. built.places ≡ places_of (form_of built.program)) }
 
     // The code is no longer than the count and the lean count of the program.
     ensures within { IfOk result (λ built. length built.code.code.instrs ≤ form_count (form_of built.program)) }

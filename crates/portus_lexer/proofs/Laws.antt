@@ -1,5 +1,5 @@
 -- A scan finds the one list of tokens that a text has, or the first byte that may not stand where it does.
-use Rattle.std.specs.Prelude.{◌≡◌, ℕ, false, Result, Ok, Err, IfOk, List, map}
+use Rattle.std.specs.Prelude.{◌≡◌, ℕ, false, Ok, List, map}
 use Rattle.std.proofs.Common.{[], refl, sym, ◌∙◌, subst}
 use Rattle.portus_lexer.specs.declared.token.Token.{Token}
 use Rattle.portus_lexer.specs.declared.within.Within.TheVariants.{Gap}
@@ -33,10 +33,6 @@ AreTokens-from_scan text tokens h =
 -- a text has one list of tokens
 pub AreTokens-only : (text : List ℕ) (tokens others : List Token) → scan Gap first_place 0 text ≡ Ok tokens → AreTokens text others → others ≡ tokens
 AreTokens-only text tokens others h are = let e = scan-lexemes text are.lexemes are.divided in let f : map token_of are.lexemes ≡ tokens = cc in are.same ∙ f
-
-pub only-from_scan : (text : List ℕ) (outcome : Result (List Token) LexFault) → IfOk outcome (λ tokens. scan Gap first_place 0 text ≡ Ok tokens) → IfOk outcome (λ tokens. (others : List Token) → AreTokens text others → others ≡ tokens)
-only-from_scan text (Ok tokens) h = λ others are. AreTokens-only text tokens others h are
-only-from_scan text (Err fault) h = tt
 
 pub HasCause-from_scan : (text : List ℕ) (fault : LexFault) → EndsScan (scan Gap first_place 0 text) fault → HasCause text fault
 HasCause-from_scan text (NotText place) h = stray_of-Err text place h

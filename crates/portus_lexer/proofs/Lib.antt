@@ -4,5 +4,6 @@ pub mod Divisions
 pub mod Scans
 pub mod Uniqueness
 pub mod StrayScans
+pub mod StraySteps
 pub mod Slices
 pub mod Laws

@@ -1,7 +1,9 @@
 //! The call of the lexer: a text's tokens in order, or the first byte that isn't allowed.
-ghost use Rattle.std.specs.Prelude.{◌≡◌, ◌≤◌, List, length, IfOk, IfErr, OnOk};
+ghost use Rattle.std.specs.Prelude.{◌≡◌, ◌≤◌, List, length, Some, IfOk, IfErr, OnOk, Err};
 ghost use Rattle.ccp_base.specs.Limits.{most_text_bytes};
+ghost use Rattle.ccp_base.specs.declared.place.Place.{Place};
 ghost use Rattle.portus_lexer.specs.declared.token.Token.{Token};
+ghost use Rattle.portus_lexer.specs.declared.token.LexFault.TheVariants.{NotText};
 ghost use Rattle.portus_lexer.specs.declared.within.Within.TheVariants.{Gap};
 ghost use Rattle.portus_lexer.specs.Places.{first_place};
 ghost use Rattle.portus_lexer.specs.Lexemes.{AreTokens};
@@ -9,6 +11,7 @@ ghost use Rattle.portus_lexer.specs.Strays.{stray_of, HasCause};
 ghost use Rattle.portus_lexer.specs.Scanning.{scan, EndsScan};
 
 use crate::scan::Scan;
+use crate::stray::before_memory;
 use crate::token::{LexFault, Tokens};
 use std::alloc::Global;
 
@@ -36,9 +39,13 @@ pub fn tokens(alloc: Global, text: &[u8]) -> Result<Tokens, LexFault>
     // A text has one list of tokens.
     ensures only { IfOk result (λ tokens. (others : List Token) → AreTokens text.now others → others ≡ tokens) }
 
-    // If a byte outside comments isn't allowed there, the answer is the place of the first one.
+    // If a byte outside comments isn't allowed there, the answer is the place of the first one, with or without memory.
     ensures clean { OnOk result (stray_of text.now ≡ None) }
     ensures refused { IfErr result (HasCause text.now) }
+    ensures stray { (place : Place) → stray_of text.now ≡ Some place → result ≡ Err (NotText place) }
 {
-    scan_tokens(alloc, text)
+    match scan_tokens(alloc, text) {
+        Ok(tokens) => Ok(tokens),
+        Err(fault) => Err(before_memory(text, fault)),
+    }
 }

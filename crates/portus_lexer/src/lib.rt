@@ -3,6 +3,7 @@
 
 pub mod calls;
 mod scan;
+mod stray;
 mod token;
 mod within;
 

@@ -21,7 +21,7 @@ pub struct Scan {
 }
 
 /// Whether the byte may stand outside comments.
-fn is_allowed(byte: u8) -> bool
+pub fn is_allowed(byte: u8) -> bool
     ensures { result ≡ is_allowed byte }
 {
     byte == b'\t' || byte == b'\n' || byte == b'\r' || (byte >= b' ' && byte <= b'~')
@@ -35,7 +35,7 @@ fn is_atom_byte(byte: u8) -> bool
 }
 
 /// The place after a byte.
-fn step(place: Place, byte: u8) -> Place
+pub fn step(place: Place, byte: u8) -> Place
     requires lines { place.line ≤ most_text_bytes }
     requires columns { place.column ≤ most_text_bytes }
     ensures { result ≡ place_past_byte place byte }

@@ -1,10 +1,13 @@
 //! The call of the parser: the forms that a text spells, or the text's first refusal.
-ghost use Rattle.std.specs.Prelude.{◌≡◌, ◌≢◌, IfOk, IfErr, Ok, map};
+ghost use Rattle.std.specs.Prelude.{◌≡◌, ◌≢◌, ◌<◌, ◌≤◌, IfOk, IfErr, Ok, Err, Some, length, map};
 ghost use Rattle.std.specs.List.{All};
+ghost use Rattle.ccp_base.specs.Limits.{most_text_bytes};
+ghost use Rattle.ccp_base.specs.declared.place.Place.{Place};
 ghost use Rattle.portus_core.specs.Trees.{Nodes, node_of, nodes_of};
 ghost use Rattle.portus_lexer.specs.Lexemes.{IsSpan, slice_of};
+ghost use Rattle.portus_lexer.specs.Strays.{stray_of};
 ghost use Rattle.portus_parser.specs.declared.fault.ParseFault.{ParseFault};
-ghost use Rattle.portus_parser.specs.declared.fault.ParseFault.TheVariants.{NoMemory};
+ghost use Rattle.portus_parser.specs.declared.fault.ParseFault.TheVariants.{SourceTooLong, NotText, NoMemory};
 ghost use Rattle.portus_parser.specs.Spelling.{Spells};
 ghost use Rattle.portus_parser.specs.Refusals.{IsRefused};
 ghost use Rattle.portus_parser.specs.Outcomes.{ReadsAs, RefusesAs, IsExact, IsSettled};
@@ -58,7 +61,10 @@ fn read_forms(alloc: Global, text: &[u8], tokens: &[Token]) -> Result<Source, Pa
 
 /// The forms of a text, or its refusal.
 fn parse_text(alloc: Global, text: &[u8]) -> Result<Source, ParseFault>
-    ensures { IsExact text.now result }
+    ensures exact { IsExact text.now result }
+    ensures long { most_text_bytes < length text.now → result ≡ Err SourceTooLong }
+    ensures stray { (place : Place) → length text.now ≤ most_text_bytes → stray_of text.now ≡ Some place
+        → result ≡ Err (NotText place) }
 {
     if text.len() > TEXT_BYTES {
         return Err(ParseFault::SourceTooLong);
@@ -78,6 +84,11 @@ pub fn parse(alloc: Global, text: &[u8]) -> Result<Source, ParseFault>
     // Each refusal is the text's first one, and a text that has a first refusal is answered by it.
     ensures refused { IfErr result (λ fault. fault ≢ NoMemory → IsRefused text.now fault) }
     ensures first { (refusal : ParseFault) → IsRefused text.now refusal → RefusesAs result refusal }
+
+    // A text that is too long, or has a stray byte, is refused for it with or without memory.
+    ensures long { most_text_bytes < length text.now → result ≡ Err SourceTooLong }
+    ensures stray { (place : Place) → length text.now ≤ most_text_bytes → stray_of text.now ≡ Some place
+        → result ≡ Err (NotText place) }
 
     // A text spells one list of forms or has one first refusal, and not both.
     ensures settled { IsSettled text.now }

@@ -1,5 +1,5 @@
--- The definitions of reg_compiler, a file each. Public contracts cite Refusal, Simulation, Counts and Known, over
--- Needs, and those of crates above also Sources; CompiledCode and Numbered are for private contracts.
+-- The definitions of reg_compiler, a file each. Public contracts cite Refusal, Simulation, Counts, Known and
+-- CompiledCode, over Needs, and those of crates above also Sources; Numbered is for private contracts.
 pub mod Known
 pub mod Needs
 pub mod Counts

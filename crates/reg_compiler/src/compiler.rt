@@ -1,7 +1,9 @@
 //! The call of the compiler: a program becomes code that simulates it, or is refused.
-ghost use Rattle.std.specs.Prelude.{◌≡◌, ◌≢◌, ◌≤◌, IfOk, IfErr, Some, None, length};
+ghost use Rattle.std.specs.Prelude.{◌≡◌, ◌≢◌, ◌≤◌, IfOk, IfErr, Err, Some, None, length};
 ghost use Rattle.portus_core.specs.ProgramForm.{form_of};
+ghost use Rattle.reg_compiler.specs.declared.fault.CompileFault.{CompileFault};
 ghost use Rattle.reg_compiler.specs.declared.fault.CompileFault.TheVariants.{NoMemory};
+ghost use Rattle.reg_compiler.specs.CompiledCode.{code_of, places_of};
 ghost use Rattle.reg_compiler.specs.Counts.{form_count, lean};
 ghost use Rattle.reg_compiler.specs.Refusal.{refusal_of};
 
@@ -19,6 +21,9 @@ pub fn compile(alloc: Global, program: Program) -> Result<Built, CompileFault>
     ensures program { IfOk result (λ built. built.program ≡ program) }
     ensures found { IfOk result (λ built. refusal_of (form_of program) ≡ None) }
     ensures refused { IfErr result (λ e. e ≢ NoMemory → refusal_of (form_of program) ≡ Some e) }
+    ensures first { (e : CompileFault) → refusal_of (form_of program) ≡ Some e → result ≡ Err e }
+    ensures code { IfOk result (λ built. built.code.code ≡ code_of (form_of program)) }
+    ensures places { IfOk result (λ built. built.places ≡ places_of (form_of program)) }
     ensures within { IfOk result (λ built. length built.code.code.instrs ≤ form_count (form_of program)) }
     ensures lean { IfOk result (λ built. length built.code.code.instrs ≤ lean (form_of program)) }
 {

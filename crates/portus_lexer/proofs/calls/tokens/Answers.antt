@@ -1,5 +1,5 @@
-use Rattle.portus_lexer.proofs.Laws.{only-from_scan}
+use Rattle.portus_lexer.proofs.Laws.{AreTokens-only}
 use Rattle.portus_lexer.proofs.calls.tokens.Goals as goal
 
-pub returns-clause-only : goal.returns-clause-only
-returns-clause-only c = only-from_scan c.args.text.now c.scan_tokens.result c.scan_tokens.ensures.found
+pub returns-in-Ok-clause-only : goal.returns-in-Ok-clause-only
+returns-in-Ok-clause-only c = λ others are. AreTokens-only c.args.text.now c.in-Ok.tokens others c.in-Ok.ensures.found are
