@@ -16,15 +16,15 @@ use Rattle.shared_link.specs.Kept.{flow_under_way, answered_all, IsFlowReady, mo
 -- ---- who sends next
 
 -- the answer says whether the flow has fewer packets in flight than it may have at the time `now`, whatever was sent
-abbrev pub TellsLack : SharedCase → ℕ → List Ask → Flows → ℕ → Bool → Type 0
+abbrev pub TellsLack : SharedCase → ℕ → List Ask → List FlowTraffic → ℕ → Bool → Type 0
 TellsLack case now asks flows flow answer =
-    (sent : List Sent) (givens : ℕ → List GivenAck) → FlowsFollow case flows.traffic.items sent givens
+    (sent : List Sent) (givens : ℕ → List GivenAck) → FlowsFollow case flows sent givens
     → answer ≡ lacks (allowed case now asks) givens flow sent
 
 -- the answer says whether some flow has fewer packets in flight than it may have at the time `now`, whatever was sent
-abbrev pub TellsSomeLack : SharedCase → ℕ → List Ask → Flows → Bool → Type 0
+abbrev pub TellsSomeLack : SharedCase → ℕ → List Ask → List FlowTraffic → Bool → Type 0
 TellsSomeLack case now asks flows answer =
-    (sent : List Sent) (givens : ℕ → List GivenAck) → FlowsFollow case flows.traffic.items sent givens
+    (sent : List Sent) (givens : ℕ → List GivenAck) → FlowsFollow case flows sent givens
     → answer ≡ some_lacks (allowed case now asks) givens (length case.flows) sent
 
 -- the counts are those of what was sent and acknowledged in `rounds` rounds, whatever that was
@@ -37,27 +37,27 @@ TellsCounts case rounds flows counts =
 
 -- the flows send more: if the link had these packets and acknowledgements before, it has the packets that `more` gives
 -- afterwards
-abbrev pub SendsOn : SharedCase → Flows → Sending → Flows → Sending → ((ℕ → List GivenAck) → List Sent → List Sent)
+abbrev pub SendsOn : SharedCase → List FlowTraffic → Sending → List FlowTraffic → Sending → ((ℕ → List GivenAck) → List Sent → List Sent)
     → Type 0
 SendsOn case old from new to more =
-    (sent : List Sent) (givens : ℕ → List GivenAck) → Follows case old.traffic.items from sent givens
-    → Follows case new.traffic.items to (more givens sent) givens
+    (sent : List Sent) (givens : ℕ → List GivenAck) → Follows case old from sent givens
+    → Follows case new to (more givens sent) givens
 
 -- a flow sends one packet if it has fewer in flight than it may have
-abbrev pub SendsOne : SharedCase → List Ask → ℕ → Flows → Sending → Flows → Sending → Type 0
+abbrev pub SendsOne : SharedCase → List Ask → ℕ → List FlowTraffic → Sending → List FlowTraffic → Sending → Type 0
 SendsOne case asks flow old from new to =
     SendsOn case old from new to
     (λ givens sent.
     if lacks (allowed case from.now asks) givens flow sent then with_packet case from.now flow sent else sent)
 
 -- all flows take a turn
-abbrev pub SendsTurn : SharedCase → List Ask → Flows → Sending → Flows → Sending → Type 0
+abbrev pub SendsTurn : SharedCase → List Ask → List FlowTraffic → Sending → List FlowTraffic → Sending → Type 0
 SendsTurn case asks old from new to =
     SendsOn case old from new to
     (λ givens sent. sending_turn case from.now (allowed case from.now asks) givens (length case.flows) sent)
 
 -- all flows take all turns of a round
-abbrev pub SendsAll : SharedCase → List Ask → Flows → Sending → Flows → Sending → Type 0
+abbrev pub SendsAll : SharedCase → List Ask → List FlowTraffic → Sending → List FlowTraffic → Sending → Type 0
 SendsAll case asks old from new to =
     SendsOn case old from new to
     (λ givens sent. turns_of case from.now (allowed case from.now asks) givens most_flight sent)

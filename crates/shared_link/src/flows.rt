@@ -50,6 +50,114 @@ fn allowance_of(case: &SharedCase, now: u64, asks: &[Ask], flow: usize) -> u64
     allowance(link.mss, ask.window)
 }
 
+// These four take the flows as a slice: a loop over them then has their place and number at hand, and doesn't read them
+// again after each packet that is put into memory.
+/// Whether a flow has fewer packets in flight than it may have.
+fn lacks(
+    flows: &[FlowTraffic],
+    case: &SharedCase,
+    asks: &[Ask],
+    sending: &Sending,
+    flow: usize,
+) -> bool
+    requires ready { AreReady case.now sending.now.rounds flows.now }
+    requires prepared { ArePrepared case.now sending.now.now asks.now (length flows.now) flows.now }
+    requires flow { flow < length flows.now }
+    ensures below { IsTrue result → (other : FlowTraffic)
+        → (get_or flows.now flow other).in_flight < (get_or flows.now flow other).allowance }
+    ensures lacks { TellsLack case.now sending.entry.now.now asks.now flows.now flow result }
+{
+    // for the contract alone: what holds of the flows depends on the case, what they ask for and the rounds so far
+    let _ = case;
+    let _ = asks;
+    let _ = sending;
+    let traffic = &flows[flow];
+    traffic.in_flight < traffic.allowance
+}
+
+/// A flow sends a packet if it has fewer in flight than it may have. Answers whether it sent one.
+fn send_one(
+    flows: &mut [FlowTraffic],
+    case: &SharedCase,
+    asks: &[Ask],
+    sending: &mut Sending,
+    flow: usize,
+) -> bool
+    requires case { IsWithin case.now }
+    requires ready { AreReady case.now sending.old.rounds flows.old }
+    requires prepared { ArePrepared case.now sending.old.now asks.now (length flows.old) flows.old }
+    requires asks { length asks.now ≡ length case.now.flows }
+    requires flow { flow < length flows.old }
+    requires sending { IsSending case.now.trace sending.old }
+    ensures ready { AreReady case.now sending.new.rounds flows.new }
+    ensures prepared { ArePrepared case.now sending.new.now asks.now (length flows.new) flows.new }
+    ensures sending { IsSending case.now.trace sending.new }
+    ensures rounds { sending.new.rounds ≡ sending.old.rounds }
+    ensures now { sending.new.now ≡ sending.old.now }
+    ensures follows { SendsOne case.now asks.now flow flows.old sending.old flows.new sending.new }
+    ensures unchanged { IsFalse result → flows.new ≡ flows.old }
+    ensures lacks { IsFalse result → TellsLack case.now sending.old.now asks.now flows.new flow false }
+{
+    if !lacks(flows, case, asks, sending, flow) {
+        return false;
+    }
+    flows[flow].send(link_of(case, flow), &case.trace, case.queue, sending);
+    true
+}
+
+/// Each flow in turn sends a packet if it has fewer in flight than it may have. Answers whether some flow sent one: if
+/// not, none has fewer.
+fn send_turn(
+    flows: &mut [FlowTraffic],
+    case: &SharedCase,
+    asks: &[Ask],
+    sending: &mut Sending,
+) -> bool
+    requires case { IsWithin case.now }
+    requires ready { AreReady case.now sending.old.rounds flows.old }
+    requires prepared { ArePrepared case.now sending.old.now asks.now (length flows.old) flows.old }
+    requires asks { length asks.now ≡ length case.now.flows }
+    requires sending { IsSending case.now.trace sending.old }
+    ensures ready { AreReady case.now sending.new.rounds flows.new }
+    ensures prepared { ArePrepared case.now sending.new.now asks.now (length flows.new) flows.new }
+    ensures sending { IsSending case.now.trace sending.new }
+    ensures rounds { sending.new.rounds ≡ sending.old.rounds }
+    ensures now { sending.new.now ≡ sending.old.now }
+    ensures follows { SendsTurn case.now asks.now flows.old sending.old flows.new sending.new }
+    ensures over { IsFalse result → TellsSomeLack case.now sending.old.now asks.now flows.new false }
+{
+    let mut has_sent = false;
+    let mut flow = 0;
+    while flow < flows.len() {
+        has_sent = send_one(flows, case, asks, sending, flow) || has_sent;
+        flow += 1;
+    }
+    has_sent
+}
+
+/// The flows send in turn until none has fewer packets in flight than it may have.
+fn send_turns(flows: &mut [FlowTraffic], case: &SharedCase, asks: &[Ask], sending: &mut Sending)
+    requires case { IsWithin case.now }
+    requires ready { AreReady case.now sending.old.rounds flows.old }
+    requires prepared { ArePrepared case.now sending.old.now asks.now (length flows.old) flows.old }
+    requires asks { length asks.now ≡ length case.now.flows }
+    requires sending { IsSending case.now.trace sending.old }
+    ensures ready { AreReady case.now sending.new.rounds flows.new }
+    ensures prepared { ArePrepared case.now sending.new.now asks.now (length flows.new) flows.new }
+    ensures sending { IsSending case.now.trace sending.new }
+    ensures rounds { sending.new.rounds ≡ sending.old.rounds }
+    ensures now { sending.new.now ≡ sending.old.now }
+    ensures follows { SendsAll case.now asks.now flows.old sending.old flows.new sending.new }
+{
+    let mut left = PACKETS;
+    while left > 0 {
+        if !send_turn(flows, case, asks, sending) {
+            return;
+        }
+        left -= 1;
+    }
+}
+
 /// What is under way of all flows, in order.
 #[derive(Drop)]
 pub(crate) struct Flows {
@@ -57,84 +165,6 @@ pub(crate) struct Flows {
 }
 
 impl Flows {
-    /// Whether a flow has fewer packets in flight than it may have.
-    fn lacks(&self, case: &SharedCase, asks: &[Ask], sending: &Sending, flow: usize) -> bool
-        requires ready { AreReady case.now sending.now.rounds self.now.traffic.items }
-        requires prepared { ArePrepared case.now sending.now.now asks.now (length self.now.traffic.items)
-            self.now.traffic.items }
-        requires flow { flow < length self.now.traffic.items }
-        ensures below { IsTrue result → (other : FlowTraffic)
-            → (get_or self.now.traffic.items flow other).in_flight
-            < (get_or self.now.traffic.items flow other).allowance }
-        ensures lacks { TellsLack case.now sending.entry.now.now asks.now self.now flow result }
-    {
-        // for the contract alone: what holds of the flows depends on the case, what they ask for and the rounds so far
-        let _ = case;
-        let _ = asks;
-        let _ = sending;
-        let traffic = &self.traffic[flow];
-        traffic.in_flight < traffic.allowance
-    }
-
-    /// A flow sends a packet if it has fewer in flight than it may have. Answers whether it sent one.
-    fn send_one(
-        &mut self,
-        case: &SharedCase,
-        asks: &[Ask],
-        sending: &mut Sending,
-        flow: usize,
-    ) -> bool
-        requires case { IsWithin case.now }
-        requires ready { AreReady case.now sending.old.rounds self.old.traffic.items }
-        requires prepared { ArePrepared case.now sending.old.now asks.now (length self.old.traffic.items)
-            self.old.traffic.items }
-        requires asks { length asks.now ≡ length case.now.flows }
-        requires flow { flow < length self.old.traffic.items }
-        requires sending { IsSending case.now.trace sending.old }
-        ensures ready { AreReady case.now sending.new.rounds self.new.traffic.items }
-        ensures prepared { ArePrepared case.now sending.new.now asks.now (length self.new.traffic.items)
-            self.new.traffic.items }
-        ensures sending { IsSending case.now.trace sending.new }
-        ensures rounds { sending.new.rounds ≡ sending.old.rounds }
-        ensures now { sending.new.now ≡ sending.old.now }
-        ensures follows { SendsOne case.now asks.now flow self.old sending.old self.new sending.new }
-        ensures unchanged { IsFalse result → self.new ≡ self.old }
-        ensures lacks { IsFalse result → TellsLack case.now sending.old.now asks.now self.new flow false }
-    {
-        if !self.lacks(case, asks, sending, flow) {
-            return false;
-        }
-        self.traffic[flow].send(link_of(case, flow), &case.trace, case.queue, sending);
-        true
-    }
-
-    /// Each flow in turn sends a packet if it has fewer in flight than it may have. Answers whether some flow sent one:
-    /// if not, none has fewer.
-    fn send_turn(&mut self, case: &SharedCase, asks: &[Ask], sending: &mut Sending) -> bool
-        requires case { IsWithin case.now }
-        requires ready { AreReady case.now sending.old.rounds self.old.traffic.items }
-        requires prepared { ArePrepared case.now sending.old.now asks.now (length self.old.traffic.items)
-            self.old.traffic.items }
-        requires asks { length asks.now ≡ length case.now.flows }
-        requires sending { IsSending case.now.trace sending.old }
-        ensures ready { AreReady case.now sending.new.rounds self.new.traffic.items }
-        ensures prepared { ArePrepared case.now sending.new.now asks.now (length self.new.traffic.items)
-            self.new.traffic.items }
-        ensures sending { IsSending case.now.trace sending.new }
-        ensures rounds { sending.new.rounds ≡ sending.old.rounds }
-        ensures now { sending.new.now ≡ sending.old.now }
-        ensures follows { SendsTurn case.now asks.now self.old sending.old self.new sending.new }
-        ensures over { IsFalse result → TellsSomeLack case.now sending.old.now asks.now self.new false }
-    {
-        let mut has_sent = false;
-        let mut flow = 0;
-        while flow < self.traffic.len() {
-            has_sent = self.send_one(case, asks, sending, flow) || has_sent;
-            flow += 1;
-        }
-        has_sent
-    }
-
     /// The flows send in turn until none has fewer packets in flight than it may have.
     pub(crate) fn send_all(&mut self, case: &SharedCase, asks: &[Ask], sending: &mut Sending)
         requires case { IsWithin case.now }
@@ -149,15 +179,10 @@ impl Flows {
         ensures sending { IsSending case.now.trace sending.new }
         ensures rounds { sending.new.rounds ≡ sending.old.rounds }
         ensures now { sending.new.now ≡ sending.old.now }
-        ensures follows { SendsAll case.now asks.now self.old sending.old self.new sending.new }
+        ensures follows { SendsAll case.now asks.now self.old.traffic.items sending.old
+            self.new.traffic.items sending.new }
     {
-        let mut left = PACKETS;
-        while left > 0 {
-            if !self.send_turn(case, asks, sending) {
-                return;
-            }
-            left -= 1;
-        }
+        send_turns(self.traffic.as_mut_slice(), case, asks, sending);
     }
 
     /// The traffic of flows that have sent nothing.

@@ -1,5 +1,5 @@
 //! Acknowledgements in packed form.
-ghost use Rattle.std.specs.Prelude.{◌≡◌, ◌≤◌};
+ghost use Rattle.std.specs.Prelude.{◌≡◌, ◌-◌, ◌≤◌};
 ghost use Rattle.ccp_base.specs.Limits.{most_segment_bytes, most_flight};
 ghost use Rattle.link_model.specs.Counts.{most_packets};
 ghost use Rattle.link_model.specs.Link.{no_past, arrival_ack_of, timeout_ack_of};
@@ -10,7 +10,7 @@ use ccp_base::{Ack, Sequence};
 use link_model::{Arrival, Past, arrival_ack, timeout_ack};
 use std::marker::Model;
 
-/// An acknowledgement in 48 bytes, by what the link knows of it. The whole acknowledgement, with its rates, is computed
+/// An acknowledgement in 40 bytes, by what the link knows of it. The whole acknowledgement, with its rates, is computed
 /// by the thread that gives it to its flow, and not by the one that runs the link for all flows. Contracts see the
 /// whole one.
 #[derive(Drop)]
@@ -18,17 +18,17 @@ pub struct PackedAck {
     /// When it arrives, in microseconds.
     now: u64,
     rtt_sample_us: u64,
-    /// When the flow starts, in microseconds.
-    start_us: u64,
-    mss: u32,
-    /// How many packets leave the flight as lost.
-    lost: u32,
-    /// How many packets stay in flight.
-    stay: u32,
+    /// How long after its flow's start it arrives, in microseconds: 0 before it.
+    since: u64,
     /// How many packets of the flow were acknowledged so far.
     acked: u32,
     /// How many were sent so far.
     sent: u32,
+    mss: u16,
+    /// How many packets leave the flight as lost.
+    lost: u16,
+    /// How many packets stay in flight.
+    stay: u16,
     /// Whether the queue marked its packet.
     marked: bool,
     was_timeout: bool,
@@ -72,12 +72,12 @@ impl PackedAck {
         PackedAck {
             now: arrival.at,
             rtt_sample_us: arrival.at - arrival.sent_at,
-            start_us: link.start_us,
-            mss: link.mss,
-            lost: arrival.lost as u32,
-            stay: stay as u32,
+            since: arrival.at.saturating_sub(link.start_us),
             acked: acked as u32,
             sent: sent as u32,
+            mss: link.mss as u16,
+            lost: arrival.lost as u16,
+            stay: stay as u16,
             marked: arrival.marked,
             was_timeout: false,
         }
@@ -103,12 +103,12 @@ impl PackedAck {
         PackedAck {
             now,
             rtt_sample_us: past.rtt_sample_us,
-            start_us: link.start_us,
-            mss: link.mss,
-            lost: lost as u32,
-            stay: 0,
+            since: now.saturating_sub(link.start_us),
             acked: acked as u32,
             sent: sent as u32,
+            mss: link.mss as u16,
+            lost: lost as u16,
+            stay: 0,
             marked: false,
             was_timeout: true,
         }
@@ -119,39 +119,76 @@ impl PackedAck {
     pub fn ack(&self) -> Ack
         ensures { result ≡ self.entry.now }
     {
-        // its rates are those of an acknowledgement at this time of a flow that starts at time 0
-        let since = self.now.saturating_sub(self.start_us);
-        let lost = u64::from(self.lost);
+        let mut ack = Ack::default();
+        self.unpack(&mut ack);
+        ack
+    }
+
+    /// Writes the whole acknowledgement where it is read: the thread that gives a flow its acknowledgements has one
+    /// place for all of them.
+    #[inline]
+    pub fn unpack(&self, ack: &mut Ack)
+        ensures { ack.new ≡ self.entry.now }
+    {
         let acked = u64::from(self.acked);
         let sent = u64::from(self.sent);
         if self.was_timeout {
-            let past = Past {
-                rtt_sample_us: self.rtt_sample_us,
-            };
-            let ack = timeout_ack(self.mss, since, past, lost, acked, sent);
-            return Ack {
-                now: self.now,
-                ..ack
-            };
+            let sample = self.rtt_sample_us;
+            let lost = u64::from(self.lost);
+            put_timeout(
+                ack, self.mss, self.now, self.since, sample, lost, acked, sent,
+            );
+            return;
         }
+        // its rates are those of an acknowledgement at this time of a flow that starts at time 0
         let arrival = Arrival {
-            lost,
-            sent_at: since,
-            at: since,
+            lost: u64::from(self.lost),
+            sent_at: self.since,
+            at: self.since,
             marked: self.marked,
         };
-        let ack = arrival_ack(
-            self.mss,
+        let over_flow_time = arrival_ack(
+            u32::from(self.mss),
             arrival,
             Past::none(),
             u64::from(self.stay),
             acked,
             sent,
         );
-        Ack {
+        *ack = Ack {
             now: self.now,
-            rtt_sample_us: self.rtt_sample_us.min(self.now),
-            ..ack
-        }
+            rtt_sample_us: self.rtt_sample_us,
+            ..over_flow_time
+        };
     }
+}
+
+/// Writes the acknowledgement of a flow's timeout at `now`, which is `since` microseconds after the flow's start and has
+/// this round-trip sample. A timeout is rare: it has no place in the function that unpacks each acknowledgement.
+#[inline(never)]
+fn put_timeout(
+    ack: &mut Ack,
+    mss: u16,
+    now: u64,
+    since: u64,
+    sample: u64,
+    lost: u64,
+    acked: u64,
+    sent: u64,
+)
+    requires since { since ≤ now }
+    requires acked { acked ≤ most_packets }
+    requires sent { sent ≤ most_packets }
+    ensures { ack.new ≡ since_start mss (now - since) acked sent
+        (timeout_ack_of mss now (record { rtt_sample_us = sample }) lost 0 acked sent) }
+{
+    let past = Past {
+        rtt_sample_us: sample,
+    };
+    // its rates are those of a timeout at this time of a flow that starts at time 0
+    let over_flow_time = timeout_ack(u32::from(mss), since, past, lost, acked, sent);
+    *ack = Ack {
+        now,
+        ..over_flow_time
+    };
 }

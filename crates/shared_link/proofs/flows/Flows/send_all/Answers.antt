@@ -1,66 +1,28 @@
-use Rattle.std.proofs.Common.{◌≡◌, ◌-◌, suc, false, length, subst, ap, sym, ◌∙◌, arith, rules}
+use Rattle.std.proofs.Common.{List, length, subst, sym, rules}
+use Rattle.std.proofs.lemmas.List.{with_items_is, places}
+use Rattle.shared_link.specs.declared.flow_traffic.FlowTraffic.{FlowTraffic}
 use Rattle.ccp_base.specs.Limits.{most_flight}
-use Rattle.shared_link.specs.SharedRounds.{allowed, some_lacks, sending_turn, turns_of}
-use Rattle.shared_link.specs.Kept.{Follows}
-use Rattle.shared_link.proofs.SendingLemmas.{turns-over, turns-first}
+use Rattle.shared_link.specs.SharedRounds.{allowed, turns_of}
+use Rattle.shared_link.specs.Kept.{AreReady, ArePrepared, Follows}
 use Rattle.shared_link.proofs.flows.Flows.send_all.Goals as goal
 
-pub returns-then-not-send_turn-clause-follows : goal.returns-then-not-send_turn-clause-follows
-returns-then-not-send_turn-clause-follows c = λ sent givens follows.
-    let case = c.args.case.now in
-    let left = c.loop-left.left in
-    let now = c.loop-left.sending.now in
-    let asks = c.args.asks.now in
-    let may = allowed case now asks in
-    let after = c.send_turn.new in
-    let turned = c.loop-left.invariant.5 sent givens follows in
-    let more = sending_turn case now may givens (length case.flows) turned.so_far in
-    let followed = c.send_turn.ensures.follows turned.so_far givens turned.follows in
-    let none : some_lacks may givens (length case.flows) more ≡ false = sym (c.send_turn.ensures.over (search rules) more givens followed.traffic) in
-    let one : suc (left - 1) ≡ left = omega (arith, c.loop-left-test.true) in
-    subst (λ s. Follows case after.self.traffic.items after.sending s givens)
-    (sym (turns-over case now givens may (left - 1) more none)
-    ∙ turns-first case now givens may (left - 1) turned.so_far
-    ∙ ap (λ k. turns_of case now may givens k turned.so_far) one
-    ∙ turned.rest
-    ∙ ap (λ n. turns_of case n (allowed case n asks) givens most_flight sent) c.loop-left.invariant.4)
-    followed
+pub returns-clause-ready : goal.returns-clause-ready
+returns-clause-ready c =
+    subst (λ (flows : List FlowTraffic). AreReady c.args.case.now c.send_turns.new.sending.rounds flows)
+    (sym (with_items_is c.args.self.now.traffic c.send_turns.new.flows (search (rules, places)))) c.send_turns.ensures.ready
 
-pub loop-left-preserved : goal.loop-left-preserved
-loop-left-preserved c =
-    let case = c.args.case.now in
-    let left = c.loop-left.left in
-    let now = c.loop-left.sending.now in
-    let asks = c.args.asks.now in
-    let may = allowed case now asks in
-    let one : suc (left - 1) ≡ left = omega (arith, c.loop-left-test.true) in (
-      c.send_turn.ensures.ready,
-      c.send_turn.ensures.prepared,
-      c.send_turn.ensures.sending,
-      c.send_turn.ensures.rounds ∙ c.loop-left.invariant.3,
-      c.send_turn.ensures.now ∙ c.loop-left.invariant.4,
-      λ sent givens follows.
-          (let turned = c.loop-left.invariant.5 sent givens follows in
-          let more = sending_turn case now may givens (length case.flows) turned.so_far in
-          record {
-            so_far = more;
-            follows = c.send_turn.ensures.follows turned.so_far givens turned.follows;
-            rest =
-                ap (λ n. turns_of case n (allowed case n asks) givens (left - 1) more) c.send_turn.ensures.now
-                ∙ turns-first case now givens may (left - 1) turned.so_far
-                ∙ ap (λ k. turns_of case now may givens k turned.so_far) one
-                ∙ turned.rest
-                ∙ ap (λ n. turns_of case n (allowed case n asks) givens most_flight sent) (sym c.send_turn.ensures.now);
-          }),
-    )
+pub returns-clause-prepared : goal.returns-clause-prepared
+returns-clause-prepared c =
+    subst (λ (flows : List FlowTraffic). ArePrepared c.args.case.now c.send_turns.new.sending.now c.args.asks.now (length flows) flows)
+    (sym (with_items_is c.args.self.now.traffic c.send_turns.new.flows (search (rules, places)))) c.send_turns.ensures.prepared
 
 pub returns-clause-follows : goal.returns-clause-follows
 returns-clause-follows c = λ sent givens follows.
     let case = c.args.case.now in
-    let now = c.loop-left.sending.now in
-    let asks = c.args.asks.now in
-    let may = allowed case now asks in
-    let turned = c.loop-left.invariant.5 sent givens follows in
-    let none : 0 ≡ c.loop-left.left = omega (arith, c.loop-left-test.false) in
-    subst (λ s. Follows case c.loop-left.self.traffic.items c.loop-left.sending s givens)
-    (ap (λ k. turns_of case now may givens k turned.so_far) none ∙ turned.rest ∙ ap (λ n. turns_of case n (allowed case n asks) givens most_flight sent) c.loop-left.invariant.4) turned.follows
+    let after = c.send_turns.new in
+    let may = allowed case c.args.sending.now.now c.args.asks.now in
+    let sent_by_all = turns_of case c.args.sending.now.now may givens most_flight sent in
+    subst (λ (flows : List FlowTraffic). Follows case flows after.sending sent_by_all givens)
+    (sym (with_items_is c.args.self.now.traffic after.flows (search (rules, places))))
+    (c.send_turns.ensures.follows sent givens
+    (subst (λ (flows : List FlowTraffic). Follows case flows c.args.sending.now sent givens) (sym c.as_mut_slice.ensures.value) follows))

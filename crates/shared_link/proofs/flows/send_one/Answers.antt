@@ -1,13 +1,12 @@
-use Rattle.std.proofs.Common.{◌≡◌, ◌≤◌, true, false, cond, ◌<◌, min, max, vec_capacity, length, set, subst, ap, sym, ◌∙◌, arith, rules}
+use Rattle.std.proofs.Common.{◌≡◌, ◌≤◌, true, false, cond, ◌<◌, min, max, vec_capacity, length, set, get_or, subst, ap, sym, ◌∙◌, arith, rules}
 use Rattle.std.proofs.lemmas.List.{length-set}
-use Rattle.shared_link.specs.declared.flow_traffic.FlowTraffic.{FlowTraffic}
 use Rattle.shared_link.specs.declared.shared_case.FlowLink.{FlowLink}
 use Rattle.link_model.specs.Link.{chance_past}
 use Rattle.link_model.specs.Chances.{chance_number}
-use Rattle.shared_link.specs.SharedRounds.{flow_link_at, ask_at, with_packet}
-use Rattle.shared_link.specs.Kept.{flow_under_way, with_one, fate_now, IsFlowKept, IsFlowReady, AreReady, IsPrepared, ArePrepared, Follows}
+use Rattle.shared_link.specs.SharedRounds.{ask_at, with_packet}
+use Rattle.shared_link.specs.Kept.{flow_under_way, with_one, fate_now, IsFlowKept, AreReady, ArePrepared, Follows}
 use Rattle.shared_link.proofs.FlowsLemmas.{ready-set, prepared-set, follows-sent}
-use Rattle.shared_link.proofs.flows.Flows.send_one.Goals as goal
+use Rattle.shared_link.proofs.flows.send_one.Goals as goal
 
 pub returns-then-not-lacks-clause-ready : goal.returns-then-not-lacks-clause-ready
 returns-then-not-lacks-clause-ready c = c.requires.ready
@@ -20,41 +19,39 @@ returns-then-not-lacks-clause-follows c = λ sent givens follows.
     let case = c.args.case.now in
     let before = c.args.sending.now in
     let none : false ≡ c.lacks.result = search rules in
-    subst (λ b. Follows case c.args.self.now.traffic.items before (cond b (with_packet case before.now c.args.flow sent) sent) givens)
+    subst (λ b. Follows case c.args.flows.now before (cond b (with_packet case before.now c.args.flow sent) sent) givens)
     (none ∙ c.lacks.ensures.lacks sent givens follows.traffic) follows
 
 pub send-requires-clause-kept : goal.send-requires-clause-kept
 send-requires-clause-kept c =
     let case = c.args.case.now in
     let f = c.args.flow in
-    let old = c.index_mut.result.now in
-    let ready = subst (λ (x : FlowTraffic). IsFlowReady (flow_link_at case f) c.args.sending.now.rounds x) (sym c.index_mut.ensures.value) (c.requires.ready.each f old c.requires.flow) in
+    let old = get_or c.args.flows.now f c.index-flows-flow.result in
+    let ready = c.requires.ready.each f c.index-flows-flow.result c.requires.flow in
     subst (λ (l : FlowLink). IsFlowKept l old) (sym c.link_of.ensures) ready.kept
 
 pub send-requires-clause-sent : goal.send-requires-clause-sent
 send-requires-clause-sent c =
     let case = c.args.case.now in
     let f = c.args.flow in
-    let old = c.index_mut.result.now in
-    let ready = subst (λ (x : FlowTraffic). IsFlowReady (flow_link_at case f) c.args.sending.now.rounds x) (sym c.index_mut.ensures.value) (c.requires.ready.each f old c.requires.flow) in
+    let old = get_or c.args.flows.now f c.index-flows-flow.result in
+    let ready = c.requires.ready.each f c.index-flows-flow.result c.requires.flow in
     let sent = ready.sent in
     let few = ready.kept.few in
     omega (arith, sent, few, c.requires.sending.rounds)
 
 pub send-requires-clause-room : goal.send-requires-clause-room
-send-requires-clause-room c =
-    let t = c.index_mut.result.now in
-    subst (λ (x : FlowTraffic). x.in_flight < x.allowance) (sym c.index_mut.ensures.value) (c.lacks.ensures.below (search rules) t)
+send-requires-clause-room c = c.lacks.ensures.below (search rules) c.index-flows-flow.result
 
 pub returns-clause-ready : goal.returns-clause-ready
 returns-clause-ready c =
     let case = c.args.case.now in
     let f = c.args.flow in
-    let old = c.index_mut.result.now in
+    let old = get_or c.args.flows.now f c.index-flows-flow.result in
     let new = c.send.new.self in
     let rounds = c.args.sending.now.rounds in
-    let ready = subst (λ (x : FlowTraffic). IsFlowReady (flow_link_at case f) rounds x) (sym c.index_mut.ensures.value) (c.requires.ready.each f old c.requires.flow) in
-    let flows = c.args.self.now.traffic.items in
+    let ready = c.requires.ready.each f c.index-flows-flow.result c.requires.flow in
+    let flows = c.args.flows.now in
     subst (λ n. AreReady case n (set flows f new)) (sym c.send.ensures.rounds)
     (ready-set case rounds flows f new c.requires.flow c.requires.ready
     (record {
@@ -67,14 +64,14 @@ pub returns-clause-prepared : goal.returns-clause-prepared
 returns-clause-prepared c =
     let case = c.args.case.now in
     let f = c.args.flow in
-    let flows = c.args.self.now.traffic.items in
-    let old = c.index_mut.result.now in
+    let flows = c.args.flows.now in
+    let old = get_or c.args.flows.now f c.index-flows-flow.result in
     let new = c.send.new.self in
     let asks = c.args.asks.now in
     let count = length-set flows f new in
-    let below : old.in_flight < old.allowance = subst (λ (x : FlowTraffic). x.in_flight < x.allowance) (sym c.index_mut.ensures.value) (c.lacks.ensures.below (search rules) old) in
+    let below : old.in_flight < old.allowance = c.lacks.ensures.below (search rules) c.index-flows-flow.result in
     let now = c.args.sending.now.now in
-    let kept = subst (λ (x : FlowTraffic). IsPrepared case now asks f x) (sym c.index_mut.ensures.value) (c.requires.prepared f old c.requires.flow) in
+    let kept = c.requires.prepared f c.index-flows-flow.result c.requires.flow in
     let room : min (ask_at asks f).left (max old.in_flight old.allowance) ≤ vec_capacity old.acks = kept.room in
     let here : min (ask_at asks f).left (max new.in_flight new.allowance) ≤ vec_capacity new.acks = omega (arith, room, below, c.send.ensures.allowance, c.send.ensures.in_flight, ap vec_capacity c.send.ensures.acks) in
     subst (λ n. ArePrepared case n asks (length (set flows f new)) (set flows f new)) (sym c.send.ensures.now)
@@ -85,8 +82,8 @@ pub returns-clause-follows : goal.returns-clause-follows
 returns-clause-follows c = λ sent givens follows.
     let case = c.args.case.now in
     let f = c.args.flow in
-    let flows = c.args.self.now.traffic.items in
-    let old = c.index_mut.result.now in
+    let flows = c.args.flows.now in
+    let old = get_or c.args.flows.now f c.index-flows-flow.result in
     let new = c.send.new.self in
     let before = c.args.sending.now in
     let after = c.send.new.sending in
@@ -95,7 +92,7 @@ returns-clause-follows c = λ sent givens follows.
     let standing = c.send.ensures.standing ∙ ap (λ (l : FlowLink). with_one case.trace l.delay_us before.now (fate_now case.trace l case.queue old.sent before) (flow_under_way old)) link in
     let chance = c.send.ensures.chance ∙ ap (λ (l : FlowLink). chance_past (fate_now case.trace l case.queue old.sent before) (chance_number case.trace before.next)) link in
     subst (λ b. Follows case (set flows f new) after (cond b (with_packet case before.now f sent) sent) givens) (sym some ∙ c.lacks.ensures.lacks sent givens follows.traffic)
-    (follows-sent case c.requires.sending.valid flows before sent givens follows c.requires.sending f c.requires.flow old c.index_mut.ensures.value new after c.send.ensures.now standing chance)
+    (follows-sent case c.requires.sending.valid flows before sent givens follows c.requires.sending f c.requires.flow old (ap (get_or flows f) c.index-flows-flow.is) new after c.send.ensures.now standing chance)
 
 pub returns-then-not-lacks-clause-lacks : goal.returns-then-not-lacks-clause-lacks
 returns-then-not-lacks-clause-lacks c = λ is sent givens follows.

@@ -2,17 +2,17 @@ use Rattle.std.proofs.Common.{◌≡◌, ℕ, List, length}
 use Rattle.link_model.specs.Link.{GivenAck}
 use Rattle.shared_link.specs.SharedRounds.{Sent}
 use Rattle.shared_link.specs.Kept.{IsSending, Follows, AreReady, ArePrepared, TurnsMade}
-use Rattle.shared_link.proofs.flows.Flows.send_all.Given as goal
+use Rattle.shared_link.proofs.flows.send_turns.Given as goal
 
 abbrev pub invariant-loop-left : goal.invariant-loop-left
 invariant-loop-left l =
-    AreReady l.case l.sending.rounds l.self.traffic.items
-    × ArePrepared l.case l.sending.now l.asks (length l.self.traffic.items) l.self.traffic.items
+    AreReady l.case l.sending.rounds l.flows
+    × ArePrepared l.case l.sending.now l.asks (length l.flows) l.flows
     × IsSending l.case.trace l.sending
     × (l.sending.rounds ≡ l.fn.sending.rounds)
     × (l.sending.now ≡ l.fn.sending.now)
-    × ((sent : List Sent) (givens : ℕ → List GivenAck) → Follows l.case l.fn.self.traffic.items l.fn.sending sent givens
-    → TurnsMade l.case l.asks l.self.traffic.items l.sending l.left sent givens)
+    × ((sent : List Sent) (givens : ℕ → List GivenAck) → Follows l.case l.fn.flows l.fn.sending sent givens
+    → TurnsMade l.case l.asks l.flows l.sending l.left sent givens)
 
 abbrev pub decreases-loop-left : goal.decreases-loop-left
 decreases-loop-left l = l.left
