@@ -11,7 +11,9 @@ from __future__ import annotations
 
 import argparse
 import os
+import stat
 import sys
+import time
 from importlib import import_module
 from typing import List, Sequence
 
@@ -80,7 +82,30 @@ def leave_pipe() -> int:
 def complain(name: str, text: str) -> None:
     """Prints an error as one line on standard error."""
     line = " ".join(text.split("\n"))
+    await_pager()
     print("ccp%s: %s" % (" " + name if name else "", line), file=sys.stderr, flush=True)
+
+
+def await_pager() -> None:
+    """Waits until the pager that reads the output has left the terminal: what is printed on its page goes with it. Only
+    a command that the user's shell started itself waits: in a list of commands the next one would wait too."""
+    try:
+        import termios
+    except ImportError:
+        return
+    try:
+        if not sys.stderr.isatty() or not stat.S_ISFIFO(os.fstat(sys.stdout.fileno()).st_mode):
+            return
+        if os.getpgid(os.getppid()) == os.getpgrp():
+            return
+        # the pager waits for the end of its input
+        sys.stdout.flush()
+        os.dup2(os.open(os.devnull, os.O_WRONLY), sys.stdout.fileno())
+        while not termios.tcgetattr(sys.stderr.fileno())[3] & termios.ICANON:
+            time.sleep(0.1)
+    except (OSError, ValueError, termios.error):
+        # a stream that is no file, or a terminal that is gone
+        return
 
 
 def dispatch(words: List[str]) -> int:

@@ -73,7 +73,7 @@ count_seconds() {
     exec {never}<> <(:)
     while kill -0 $$ 2>/dev/null; do
         read -rt 1 -u "$never"
-        if [ $((SECONDS - begun)) -ge 3 ] && [[ $(stty -a <&2 2>/dev/null) != *-icanon* ]]; then
+        if [ $((SECONDS - begun)) -ge 3 ] && ! has_pager; then
             printf '\r\033[Kccp: %s, %s s' "$mode" $((SECONDS - begun)) >&2
         fi
     done
@@ -87,7 +87,7 @@ stop_counter() {
 
 # Wipes the line of seconds, where one may have been printed since `begun`.
 wipe_seconds() {
-    if [ $((SECONDS - begun)) -ge 3 ] && [[ $(stty -a <&2 2>/dev/null) != *-icanon* ]]; then printf '\r\033[K' >&2; fi
+    if [ $((SECONDS - begun)) -ge 3 ] && ! has_pager; then printf '\r\033[K' >&2; fi
 }
 
 # Passes the output on to the terminal; the counter $1 ends when it begins.
@@ -98,6 +98,27 @@ pass_on() {
     wipe_seconds
     printf %s "$line"
     exec cat
+}
+
+# Waits until the pager that reads the output has left the terminal: what is printed on its page goes with the page. In a
+# list of commands the next one would wait too, so there nothing waits.
+await_pager() {
+    local never
+    if [ ! -t 2 ] || [ ! -p /dev/stdout ] || ! is_started_by_shell; then return; fi
+    # the pager waits for the end of its input
+    exec 1>&- {never}<> <(:)
+    while has_pager; do read -rt 0.1 -u "$never"; done
+    exec {never}>&-
+}
+
+# Whether the shell that a user types in started this process itself: then the two are in different process groups.
+is_started_by_shell() {
+    local own above
+    { read -r own < /proc/$$/stat && read -r above < /proc/$PPID/stat; } 2>/dev/null || return 1
+    # after the name, which may have blanks: state, parent, group
+    read -r _ _ own _ <<< "${own##*) }"
+    read -r _ _ above _ <<< "${above##*) }"
+    [ "$own" != "$above" ]
 }
 
 # Prints the program's error line. A closed pipe ends silently, as that of any filter. At a terminal a refusal names the
@@ -114,6 +135,8 @@ print_errors() {
             *) error_line+="ccp: $(words_of_explain) says what is wrong, where, and what is accepted"$'\n' ;;
         esac
     fi
+    if [ -z "$error_line" ]; then return; fi
+    await_pager
     printf %s "$error_line" >&2
 }
 

@@ -128,7 +128,9 @@ why_unproved() {
 name_of_version() {
     local version commit
     read -r version < "$here/VERSION"
-    commit=$(git -C "$here" describe --always --dirty --exclude '*' 2>/dev/null) || commit='no commit known'
+    # also in a checkout of another user, which git otherwise refuses
+    commit=$(GIT_OPTIONAL_LOCKS=0 git -c "safe.directory=$here" -c core.fsmonitor=false -C "$here" \
+        describe --always --dirty --exclude '*' 2>/dev/null) || commit='no commit known'
     echo "ccp $version ($commit)"
 }
 

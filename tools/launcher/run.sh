@@ -7,7 +7,8 @@ released=$here/release/ccp
 # where what is built and what is known of it are kept: in the checkout, or, where that can't be written, in the cache
 kept=$here/crates/ccp/out
 if [ -d "$here/crates" ] && { [ ! -w "$here/crates/ccp" ] || { [ -e "$kept" ] && [ ! -w "$kept" ]; }; }; then
-    kept=${XDG_CACHE_HOME:-${HOME:-/tmp}/.cache}/ccp/${here//\//%}
+    # without a home there is no such place: what others could write must not be run
+    kept=${XDG_CACHE_HOME:-${HOME:-/dev/null}/.cache}/ccp/${here//\//%}
 fi
 # the unproved program, compiled with checks
 checked=$kept/checked/ccp
@@ -107,6 +108,7 @@ choose_program() {
 
 prove() {
     if [ ! -x "$here/tools/prove" ]; then fail '--prove needs a checkout of the sources: this ccp is installed'; fi
+    if ! type -P python3 > /dev/null; then fail '--prove needs Python 3.9 or later, and there is no python3 on the PATH: apt-get install python3'; fi
     exec "$here/tools/prove" "$@"
 }
 
@@ -135,6 +137,11 @@ count_processors() {
         if [ "$digit" != , ]; then processors=$((processors + ${ones:16#$digit:1})); fi
     done
     if [ "$processors" = 0 ]; then processors=$(nproc); fi
+}
+
+# Whether a pager has the terminal for itself.
+has_pager() {
+    [[ $(stty -a <&2 2>/dev/null) == *-icanon* ]]
 }
 
 # Runs the mode, and ends with the program's status.

@@ -132,22 +132,36 @@ class Watch:
         """Sums and products of `+infinity`, which fault. A name that is declared `+infinity` isn't so any more once
         every acknowledgement has assigned it before, or each one that meets the condition of this block."""
         settled: Set[str] = set()
-        under: List[Tuple[str, Set[str]]] = []
+        under: List[Tuple[Node, Set[str]]] = []
         for block in self.reached:
             # what an earlier block assigned holds where its whole condition is a part of this one's
             parts = {self._text(part) for part in conjuncts(block.parts[1])}
-            local_settled = settled.union(*(names for condition, names in under if condition in parts))
-            self._infinite_in(block.parts[1], local_settled)
-            for command in block.parts[2:]:
-                if command.head() not in (":=", "bind") or len(command.parts) != 3:
-                    continue
-                self._infinite_in(command.parts[2], local_settled)
-                self._infinite_blend(command, local_settled)
-                if command.parts[2].head() not in ("if", "!if", "ewma"):
-                    local_settled.add(command.parts[1].text)
-            under.append((self._text(block.parts[1]), local_settled))
+            known = settled.union(*(names for condition, names in under if self._text(condition) in parts))
+            self._infinite_in(block.parts[1], known)
+            commands = [part for part in block.parts[2:] if part.head() in (":=", "bind") and len(part.parts) == 3]
+            again: Set[str] = set()
+            for command in commands:
+                self._infinite_in(command.parts[2], known)
+                self._infinite_blend(command, known)
+                self._settle(command, known, again)
+            # a condition of which a name is assigned may hold later where it didn't before
+            assigned = {command.parts[1].text for command in commands}
+            under = [one for one in [*under, (block.parts[1], known)] if not assigned & texts_in(one[0])]
+            settled, under = settled - again, [(condition, names - again) for condition, names in under]
             if constant_of(block.parts[1]) not in (None, 0):
-                settled = local_settled
+                settled = known
+
+    def _settle(self, command: Node, known: Set[str], again: Set[str]) -> None:
+        """Adds the name that a command assigns to those that are known not to be infinite, or, where it may be, to
+        those that are so again."""
+        name, value = command.parts[1].text, command.parts[2]
+        is_choice = value.head() in ("if", "!if")
+        if any(self._is_infinite(part, known) for part in (value.parts[2:] if is_choice else [value])):
+            known.discard(name)
+            again.add(name)
+        elif not is_choice and value.head() != "ewma":
+            known.add(name)
+            again.discard(name)
 
     def _text(self, node: Node) -> str:
         """A node as it is written, with one blank between words."""
@@ -259,6 +273,11 @@ def leaves_of(node: Node) -> Iterator[Node]:
         yield node
     for part in node.parts[1:]:
         yield from leaves_of(part)
+
+
+def texts_in(node: Node) -> Set[str]:
+    """The names and numbers of an expression."""
+    return {leaf.text for leaf in leaves_of(node)}
 
 
 def conjuncts(node: Node) -> List[Node]:
