@@ -1,4 +1,5 @@
 -- The lemmas of campaign_report, a file a topic.
 mod CompiledCounts
 pub mod BookLemmas
+mod LabelLemmas
 mod WorkedAcks

@@ -2,18 +2,38 @@
 ghost use Rattle.std.specs.Prelude.{◌≡◌, ◌≤◌, ◌<◌, ◌++◌, ◌||◌, false, IfOk, OnOk, length, map};
 ghost use Rattle.ccp_base.specs.Limits.{most_cases, primitive_count};
 ghost use Rattle.campaign_report.specs.AcksText.{ack_line, ack_lines, acks_text, flow_text, flows_text, gap, is_shown};
-ghost use Rattle.campaign_report.specs.AcksText.{item_text, items_text};
+ghost use Rattle.campaign_report.specs.AckLabels.{labelled_item, labelled_items};
 
 use crate::table::Agents;
 use agent_core::Agent;
 use campaign_core::CaseAcks;
-use ccp_base::{Ack, Acks, Bytes, Name, Names, NoMemory, PRIMITIVE_NAMES, prim};
+use ccp_base::{Ack, Acks, Bytes, Name, Names, NoMemory, prim};
 use live_lines::put_flow_line;
-use report_lines::put_number;
+use report_lines::put_labelled;
 use std::alloc::Global;
 
 /// The number of `now` among the primitives.
 const NOW: u32 = 7;
+
+/// The primitives' names in the order of their numbers, each with the sign after it: an item takes two pieces in place of
+/// four.
+const LABELS: [&[u8]; 15] = [
+    b"bytes_acked=",
+    b"packets_acked=",
+    b"bytes_misordered=",
+    b"packets_misordered=",
+    b"ecn_bytes=",
+    b"ecn_packets=",
+    b"lost_pkts_sample=",
+    b"now=",
+    b"bytes_in_flight=",
+    b"packets_in_flight=",
+    b"bytes_pending=",
+    b"rate_incoming=",
+    b"rate_outgoing=",
+    b"rtt_sample_us=",
+    b"was_timeout=",
+];
 
 /// The text of acknowledgements: for each case the line of its flow, numbered from 0, and then a line for each of its
 /// acknowledgements, which is one of `fold`. The three lists have one length, of at most 1,024 cases.
@@ -96,22 +116,22 @@ fn put_acks(text: &mut Bytes, acks: &[Ack]) -> Result<(), NoMemory>
 fn put_ack(text: &mut Bytes, ack: &Ack) -> Result<(), NoMemory>
     ensures { OnOk result (text.new ≡ text.old ++ ack_line ack.entry.now) }
 {
-    put_items(text, &PRIMITIVE_NAMES, ack)?;
+    put_items(text, &LABELS, ack)?;
     text.push(b'\n')?;
     Ok(())
 }
 
-/// Appends the primitives of an acknowledgement that are shown, with these names.
-fn put_items(text: &mut Bytes, names: &[(&[u8], &[u8])], ack: &Ack) -> Result<(), NoMemory>
-    requires { length names.now ≡ primitive_count }
+/// Appends the primitives of an acknowledgement that are shown, with these labels.
+fn put_items(text: &mut Bytes, labels: &[&[u8]], ack: &Ack) -> Result<(), NoMemory>
+    requires { length labels.now ≡ primitive_count }
     ensures { OnOk result (text.new
-        ≡ text.old ++ items_text false 0 (map (λ n. (n.0.now, n.1.now)) names.now) ack.entry.now) }
+        ≡ text.old ++ labelled_items false 0 (map (λ label. label.now) labels.now) ack.entry.now) }
 {
     let mut follows = false;
-    for (index, known) in names.iter().enumerate() {
+    for (index, label) in labels.iter().enumerate() {
         let number = index as u32;
         let value = prim(ack, number);
-        put_item(text, follows, number, known.1, value)?;
+        put_item(text, follows, number, label, value)?;
         follows = follows_after(follows, number, value);
     }
     Ok(())
@@ -122,18 +142,16 @@ fn put_item(
     text: &mut Bytes,
     follows: bool,
     number: u32,
-    name: &[u8],
+    label: &[u8],
     value: u64,
 ) -> Result<(), NoMemory>
-    ensures { OnOk result (text.new ≡ text.old ++ item_text follows number name.now value) }
+    ensures { OnOk result (text.new ≡ text.old ++ labelled_item follows number label.now value) }
 {
     if !is_shown(number, value) {
         return Ok(());
     }
-    text.extend(gap(follows))?;
-    text.extend(name)?;
-    text.push(b'=')?;
-    put_number(text, value)
+    put_gap(text, follows)?;
+    put_labelled(text, label, value)
 }
 
 /// Whether an item stands before those that follow this primitive.
@@ -150,9 +168,12 @@ fn is_shown(number: u32, value: u64) -> bool
     number == NOW || 0 < value
 }
 
-/// The blank before an item that follows another.
-fn gap(follows: bool) -> &'static [u8]
-    ensures { result.now ≡ gap follows }
+/// Appends the blank before an item that follows another.
+fn put_gap(text: &mut Bytes, follows: bool) -> Result<(), NoMemory>
+    ensures { OnOk result (text.new ≡ text.old ++ gap follows) }
 {
-    if follows { b" " } else { b"" }
+    if follows {
+        text.push(b' ')?;
+    }
+    Ok(())
 }

@@ -34,7 +34,7 @@ core_parts sources (core ∷ rest) = core_part sources core ⧺ core_parts sourc
 abbrev pub source_flows : List (ℕ × Built) → List Case → SharedCase → ℕ → List CoreState
 source_flows programs cases link rounds = flows_at_end link (flow_from (sources_of programs)) cases rounds
 
--- a text of programs and cases on a link in at most so many rounds
+-- a text of programs and cases on a link in at most this number of rounds
 abbrev pub SeriesText : Type 0
 SeriesText = List (ℕ × Built) → List Case → SharedCase → ℕ → List ℕ
 
