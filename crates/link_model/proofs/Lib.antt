@@ -11,6 +11,7 @@ pub mod Refinement
 pub mod Compact
 pub mod LossLemmas
 pub mod HorizonLemmas
+pub mod RunLemmas
 pub mod SendingLemmas
 pub mod LineLemmas
 mod WorkedRows

@@ -6,6 +6,7 @@ use Rattle.link_model.specs.Chances.{chance_time, first_chance}
 use Rattle.link_model.specs.Link.{Run, Packet, Fate, Lost, Served, GivenAck, Numbered, packet_and_lost_below, all_below, allowance, waiting, chances_past, is_listed, is_marked, fate_by, packet_after, with_sent, left_by, lost_by, in_flight, time_of, past_in, past_of, acked_of, arrival_of, arrival_ack, timeout_ack, Next, arrives, all_lost, next_arrival, answer_by, given_for, sent_by, called, run_from, run_of, ack_after}
 use Rattle.link_model.specs.LinkLaws.{run_from-push}
 use Rattle.link_model.specs.Counts.{served_chances, lost_of}
+use Rattle.link_model.specs.Runs.{AreInOrder, AreSampled, AllFindRoom}
 use Rattle.link_model.specs.Standing.{packets_of}
 use Rattle.link_model.specs.Flights.{IsServedWithin, AllServedWithin, RisesFrom, AllBelow, AllTakeBelow, TakesBelow, RiseBelow, IsQueued}
 use Rattle.link_model.proofs.Whole.{Landing, Arrived, AllLost, Whole, whole_of, packet_by, with_packet, sending, sending_whole, landing, landing_by, staying, staying_by, ack_by, with_flight, with_ack, sent_whole, next_ack, next_whole}
@@ -13,6 +14,7 @@ use Rattle.link_model.proofs.ChanceLemmas.{chance_time_rises, first_chance_max, 
 use Rattle.link_model.proofs.ServedLemmas.{all_served_within-more, all_served_within-push, all_served_within-staying}
 use Rattle.link_model.proofs.FlightLemmas.{RisesFrom-push, AllBelow-push, AllBelow-more, RisesFrom-left_by, AllBelow-left_by, all_take_below-more, in_flight-sent, packets_of-push, length-packets_of, left_by-all_below, MatchNext, match_next, IsNextBelow, next_below}
 use Rattle.link_model.proofs.CountLemmas.{rise_below-none, rise_below-sent, CountNext, count_next}
+use Rattle.link_model.proofs.RunLemmas.{next_served, is_sampled-next, finds_room}
 use Rattle.link_model.proofs.QueueLemmas.{IsQueued-later, IsQueued-sent}
 
 -- ---- arrivals in flight
@@ -74,6 +76,9 @@ pub record Settled (case : LinkCase) (packets : List Packet) (givens : List Give
   pub arriving : ArriveFrom case (time_of givens) (packets_of (in_flight packets givens))
   pub once : RiseBelow (chances_past packets) (served_chances packets)
   pub counts : length packets ≡ acked_of givens + lost_of givens + length (in_flight packets givens)
+  pub in_order : AreInOrder givens
+  pub sampled : AreSampled case.delay_us givens
+  pub room : AllFindRoom case packets
 
 pub settled_at_first : (case : LinkCase) → Settled case [] []
 settled_at_first case = record {
@@ -85,6 +90,9 @@ settled_at_first case = record {
   arriving = tt;
   once = rise_below-none 0;
   counts = omega arith;
+  in_order = tt;
+  sampled = tt;
+  room = tt;
 }
 
 -- ---- one more packet
@@ -132,6 +140,9 @@ module _ (case : LinkCase) (trace : IsTrace case.trace) (packets : List Packet) 
             (arriving_by is_lost_now (is_marked case.mark queue) now own (packets_of flight) (first_chance_from case.trace trace now past) (first_chance_at case.trace trace now past) settled.served settled.arriving);
         once = rise_below-sent is_lost_now (is_marked case.mark queue) own now packets (first_chance_from case.trace trace now past) settled.once;
         counts = omega (arith, settled.counts, ap length sent, length-append flight (last ∷ []));
+        in_order = settled.in_order;
+        sampled = settled.sampled;
+        room = (finds_room case.queue queue own (is_listed (length packets) case.losses) (leb case.queue queue) (is_marked case.mark queue) refl, settled.room);
       }
 
   -- the packet of the definition is the one that the link sends
@@ -256,6 +267,9 @@ module _ (case : LinkCase) (trace : IsTrace case.trace) (packets : List Packet) 
         arriving = subst (ArriveFrom case given.ack.now) (sym stays) goes_on.1;
         once = settled.once;
         counts = counts_answered case packets givens flight (next_arrival flight) (count_next (length packets) flight (next_arrival flight) matches settled.below) settled.counts;
+        in_order = (goes_on.0, settled.in_order);
+        sampled = (is_sampled-next case packets givens flight (next_arrival flight) (next_served case.trace (chances_past packets) flight settled.served), settled.sampled);
+        room = settled.room;
       }
 
   pub answer_same : (given_for case packets givens).ack

@@ -1,6 +1,6 @@
 -- The definitions of link_model, a file each; files named ..Laws have what follows from them.
--- Public contracts cite Chances, Counts, Link, Standing, TraceText and Traces. Flights, Horizon, Lines and LinkMoves
--- belong to the proofs: they say what a link keeps and how it moves from step to step.
+-- Public contracts cite Chances, Counts, Link, Runs, Standing, TraceText and Traces. Flights, Horizon, Lines and
+-- LinkMoves belong to the proofs: they say what a link keeps and how it moves from step to step.
 pub mod Chances
 pub mod Counts
 pub mod Flights
@@ -9,6 +9,7 @@ pub mod Lines
 pub mod Link
 pub mod LinkLaws
 pub mod LinkMoves
+pub mod Runs
 pub mod Standing
 pub mod TraceText
 pub mod Traces

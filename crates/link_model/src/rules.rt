@@ -5,6 +5,7 @@ ghost use Rattle.ccp_base.specs.Limits.{most_flight, most_segment_bytes};
 ghost use Rattle.link_model.specs.Link.{allowance_of, allowance, byte_rate, is_marked, is_listed, number_if, arrival_ack_of, timeout_ack_of, timeout_ack, run_of};
 ghost use Rattle.link_model.specs.Standing.{packet_ack};
 ghost use Rattle.link_model.specs.Counts.{AreOnce, AddUp, most_packets};
+ghost use Rattle.link_model.specs.Runs.{AreInOrder, AreSampled, AllFindRoom};
 
 use crate::arrival::Arrival;
 use crate::link_case::LinkCase;
@@ -85,6 +86,24 @@ impl LinkCase {
     pub fn packets_law(&self)
         ensures once { (windows : List ℕ) → AreOnce (run_of self.now windows) }
         ensures sum { (windows : List ℕ) → AddUp (run_of self.now windows) }
+    {
+        let _ = self.trace.as_slice();
+    }
+
+    /// What holds of the times of the acknowledgements after every list of windows: none comes before the one that was
+    /// given before it. The round-trip sample of a packet is at least the delay, and a timeout has the sample of the
+    /// acknowledgement before it, 0 if there is none.
+    pub fn order_law(&self)
+        ensures order { (windows : List ℕ) → AreInOrder (run_of self.now windows).givens }
+        ensures samples { (windows : List ℕ) → AreSampled self.now.delay_us (run_of self.now windows).givens }
+    {
+        let _ = self.trace.as_slice();
+    }
+
+    /// What holds of the queue after every list of windows: when a packet that isn't lost was sent, fewer packets waited
+    /// than the queue holds.
+    pub fn queue_law(&self)
+        ensures { (windows : List ℕ) → AllFindRoom self.now (run_of self.now windows).packets }
     {
         let _ = self.trace.as_slice();
     }

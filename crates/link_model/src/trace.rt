@@ -66,24 +66,29 @@ impl Model for Trace {
 impl Trace {
     ghost use Rattle.link_model.specs.Traces.{IsTrace};
     ghost use Rattle.link_model.specs.TraceText.{trace_of};
+    ghost use Rattle.link_model.specs.declared.trace.TraceFault.{TraceFault};
     ghost use Rattle.link_model.specs.declared.trace.TraceFault.TheVariants as fault;
 
     /// The trace of a text: a whole number from 0 to 3,600,000 a line, in decimal digits. A CR at a line's end, blanks
     /// around the number and blank lines are ignored. If several refusals hold, the error is the first one in the order
-    /// of `TraceFault`.
+    /// of `TraceFault`: it is `NoMemory` only if the text is a trace.
     pub fn read(alloc: Global, text: &[u8]) -> Result<Trace, TraceFault>
         ensures ok { IfOk result (λ trace. trace_of text.now ≡ Ok trace) }
         ensures err { IfErr result (λ f. f ≢ fault.NoMemory → trace_of text.now ≡ Err f) }
+        ensures first { (f : TraceFault) → trace_of text.now ≡ Err f → result ≡ Err f }
     {
         let reading = read_lines(alloc, text)?;
-        let Some(last) = reading.times.last() else {
+        if reading.count == 0 {
             return Err(TraceFault::EmptyTrace);
-        };
+        }
         if let Some(line) = reading.fall {
             return Err(TraceFault::NotRising(line));
         }
-        if *last == 0 {
+        if reading.before == 0 {
             return Err(TraceFault::ZeroPeriod);
+        }
+        if reading.short {
+            return Err(TraceFault::NoMemory);
         }
         Ok(Trace {
             times: reading.times,

@@ -1,6 +1,7 @@
 //! How the lines of a trace's text are read, up to the first bad one.
-ghost use Rattle.std.specs.Prelude.{◌≡◌, ℕ, ◌+◌, ◌^◌, ◌<◌, ◌≤◌, None, IfOk, IfErr, OnOk, ◌≢◌, [], ◌++◌, true, false, length};
+ghost use Rattle.std.specs.Prelude.{◌≡◌, ℕ, ◌+◌, ◌^◌, ◌<◌, ◌≤◌, None, IfOk, IfErr, OnOk, ◌≢◌, [], ◌∷◌, ◌++◌, true, false, length};
 ghost use Rattle.link_model.specs.TraceText.{without_first_blanks, without_last_blanks, word_line, trace_line, is_bad_line, with_time, time_after, times_of, first_bad_line, first_fall, fall_after, text_lines, IsAtFirstBad};
+ghost use Rattle.link_model.specs.Traces.{period};
 ghost use Rattle.link_model.specs.declared.trace.TraceFault.TheVariants as fault;
 
 use crate::trace::{LONGEST_MS, TraceFault};
@@ -21,8 +22,12 @@ pub(crate) enum TraceLine {
 /// What was read of a trace text so far.
 #[derive(Drop)]
 pub(crate) struct TraceReading {
-    /// The times, in milliseconds.
+    /// The times, in milliseconds, unless the list is short.
     pub times: Vec<u32>,
+    /// Whether the list couldn't grow: then it lacks times.
+    pub short: bool,
+    /// How many times there are, those that the list lacks counted.
+    pub count: u64,
     /// The last of them, or 0.
     pub before: u32,
     /// The number of the next line, from 1.
@@ -32,22 +37,28 @@ pub(crate) struct TraceReading {
 }
 
 impl TraceReading {
-    /// Takes the next line in.
+    /// Takes the next line in. A list that can't grow refuses nothing yet, since a later line may be bad.
     fn take(&mut self, line: TraceLine) -> Result<(), TraceFault>
-        requires { self.old.line + 1 < 2 ^ 64 }
+        requires line { self.old.line + 1 < 2 ^ 64 }
+        requires count { self.old.count < self.old.line }
         ensures good { OnOk result (is_bad_line line ≡ false) }
         ensures line { OnOk result (self.new.line ≡ self.old.line + 1) }
-        ensures times { OnOk result (self.new.times.items ≡ self.old.times.items ++ with_time line []) }
+        ensures long { OnOk result (self.new.short ≡ false → self.old.short ≡ false) }
+        ensures times { OnOk result (self.new.short ≡ false
+            → self.new.times.items ≡ self.old.times.items ++ with_time line []) }
+        ensures count { OnOk result (self.new.count ≡ self.old.count + length (with_time line [])) }
+        ensures few { OnOk result (self.new.count < self.new.line) }
         ensures before { OnOk result (self.new.before ≡ time_after line self.old.before) }
         ensures fall { OnOk result (self.new.fall ≡ fall_after self.old.fall line self.old.before self.old.line) }
-        ensures bad { IfErr result (λ e. e ≢ fault.NoMemory → is_bad_line line ≡ true) }
-        ensures at { IfErr result (λ e. e ≢ fault.NoMemory → e ≡ fault.BadLine self.old.line) }
+        ensures bad { IfErr result (λ e. is_bad_line line ≡ true) }
+        ensures at { IfErr result (λ e. e ≡ fault.BadLine self.old.line) }
     {
         match line {
             TraceLine::Bad => return Err(TraceFault::BadLine(self.line)),
             TraceLine::Nothing => {}
             TraceLine::Time(time) => {
-                self.times.push(time)?;
+                keep(&mut self.times, &mut self.short, time);
+                self.count += 1;
                 if time < self.before {
                     self.fall = self.fall.or(Some(self.line));
                 }
@@ -59,17 +70,34 @@ impl TraceReading {
     }
 }
 
+/// Appends a time to a list, unless the list can't grow or couldn't before: then it is short.
+fn keep(times: &mut Vec<u32>, short: &mut bool, time: u32)
+    ensures long { short.new ≡ false → short.old ≡ false }
+    ensures times { short.new ≡ false → times.new.items ≡ times.old.items ++ time ∷ [] }
+{
+    if *short {
+        return;
+    }
+    if times.push(time).is_err() {
+        *short = true;
+    }
+}
+
 /// Reads every line of a trace text, up to the first bad one.
 pub(crate) fn read_lines(alloc: Global, text: &[u8]) -> Result<TraceReading, TraceFault>
     ensures good { OnOk result (first_bad_line 1 (text_lines text.now) ≡ None) }
-    ensures times { IfOk result (λ r. r.times.items ≡ times_of (text_lines text.now)) }
+    ensures times { IfOk result (λ r. r.short ≡ false → r.times.items ≡ times_of (text_lines text.now)) }
+    ensures count { IfOk result (λ r. r.count ≡ length (times_of (text_lines text.now))) }
+    ensures last { IfOk result (λ r. r.before ≡ period (times_of (text_lines text.now))) }
     ensures fall { IfOk result (λ r. r.fall ≡ first_fall 1 0 (text_lines text.now)) }
-    ensures bad { IfErr result (λ e. e ≢ fault.NoMemory → first_bad_line 1 (text_lines text.now) ≢ None) }
-    ensures at { IfErr result (λ e. e ≢ fault.NoMemory → IsAtFirstBad text.now e) }
+    ensures bad { IfErr result (λ e. first_bad_line 1 (text_lines text.now) ≢ None) }
+    ensures at { IfErr result (λ e. IsAtFirstBad text.now e) }
 {
     let mut rest = text;
     let mut reading = TraceReading {
         times: Vec::new(alloc),
+        short: false,
+        count: 0,
         before: 0,
         line: 1,
         fall: None,
