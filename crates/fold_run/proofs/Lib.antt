@@ -5,6 +5,7 @@ mod FirstLine
 mod FirstWord
 mod SeparatedLemmas
 mod AcksLaws
+mod LineCounts
 mod CutLaws
 pub mod NameLemmas
 mod ItemLemmas

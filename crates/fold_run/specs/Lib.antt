@@ -5,6 +5,7 @@ pub mod Separated
 pub mod AckLine
 pub mod Items
 pub mod Acknowledgements
+pub mod LineCount
 pub mod Ran
 pub mod Fold
 pub mod AnswerMeaning

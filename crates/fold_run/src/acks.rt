@@ -3,19 +3,21 @@ ghost use Rattle.std.specs.Prelude.{◌≡◌, ◌≢◌, ◌+◌, ◌^◌, ◌<
 ghost use Rattle.ccp_base.specs.Limits.{most_acks};
 ghost use Rattle.ccp_base.specs.declared.parts.Separator.TheVariants.{LineFeed};
 ghost use Rattle.ccp_base.specs.Parts.{parts_of};
+ghost use Rattle.fold_run.specs.declared.acks.LineFault.{LineFault};
 ghost use Rattle.fold_run.specs.declared.acks.LineFault.TheVariants.{NoMemory};
 ghost use Rattle.fold_run.specs.AckLine.{read_ack_line};
 ghost use Rattle.fold_run.specs.Acknowledgements.{with_line, acks_of_lines};
 
 use crate::ack_line::{LineKind, read_line};
 use crate::first_line::first_line;
+use crate::line_fault::before_memory;
 use crate::line_values::LineValues;
 use crate::names::Followers;
 use ccp_base::{Acks, ack_of, without_return};
 use std::alloc::{AllocError, Global};
 
 /// The most acknowledgements of one input.
-const MOST_ACKS: usize = 65_536;
+pub const MOST_ACKS: usize = 65_536;
 
 /// Why lines have no acknowledgements.
 #[derive(Clone, Copy, PartialEq, Eq)]
@@ -36,8 +38,22 @@ impl From<AllocError> for LineFault {
 }
 
 /// The acknowledgements of lines, of which the first has the number `next` in the whole input. Blank lines are ignored,
-/// and the answer is the first fault in the order of the lines.
+/// and the answer is the first fault in the order of the lines, with or without memory.
 pub fn acknowledgements(alloc: Global, lines: &[u8], next: u64) -> Result<Acks, LineFault>
+    requires { next + length lines.now < 2 ^ 64 }
+    ensures ok { IfOk result (λ acks. acks_of_lines next (parts_of LineFeed lines.now) ≡ Ok acks) }
+    ensures err { IfErr result (λ e. e ≢ NoMemory → acks_of_lines next (parts_of LineFeed lines.now) ≡ Err e) }
+    ensures first { (e : LineFault) → acks_of_lines next (parts_of LineFeed lines.now) ≡ Err e → result ≡ Err e }
+    ensures within { IfOk result (λ acks. length acks ≤ most_acks) }
+{
+    match kept_acks(alloc, lines, next) {
+        Ok(acks) => Ok(acks),
+        Err(fault) => Err(before_memory(lines, next, fault)),
+    }
+}
+
+/// The acknowledgements of lines, or the first fault among the lines up to the one that found no memory.
+fn kept_acks(alloc: Global, lines: &[u8], next: u64) -> Result<Acks, LineFault>
     requires { next + length lines.now < 2 ^ 64 }
     ensures ok { IfOk result (λ acks. acks_of_lines next (parts_of LineFeed lines.now) ≡ Ok acks) }
     ensures err { IfErr result (λ e. e ≢ NoMemory → acks_of_lines next (parts_of LineFeed lines.now) ≡ Err e) }

@@ -10,6 +10,7 @@ mod fold;
 mod folded;
 mod folding;
 mod laws;
+mod line_fault;
 mod line_number;
 mod line_values;
 mod names;

@@ -3,7 +3,7 @@ use Rattle.ccp_base.specs.Limits.{most_acks}
 use Rattle.ccp_base.specs.declared.parts.Separator.TheVariants.{LineFeed}
 use Rattle.ccp_base.specs.Parts.{parts_of}
 use Rattle.fold_run.specs.Acknowledgements.{with_lines, acks_of_lines}
-use Rattle.fold_run.proofs.acks.acknowledgements.Given as goal
+use Rattle.fold_run.proofs.acks.kept_acks.Given as goal
 
 abbrev pub invariant-loop-rest : goal.invariant-loop-rest
 invariant-loop-rest l = record {
