@@ -5,8 +5,13 @@ import argparse
 import csv
 import html
 import json
+import os
 import re
 import shutil
+import signal
+import subprocess
+import sys
+import time
 from pathlib import Path
 from types import SimpleNamespace
 
@@ -181,12 +186,26 @@ def test_the_report_says_what_ran(compared, program):
     import hashlib
 
     page = (compared / "report.html").read_text()
-    assert "proved program" in page or "without a known proof" in page
+    # what the launcher's script lists are the proved programs of this checkout
+    listed = ran([REPOSITORY / "tools/launcher/checked-program", "--proved"]).output.splitlines()
+    is_proved = any(Path(path).samefile(program) for path in listed)
+    assert ("<b>The proved program</b>" in page) == is_proved
+    assert ("<b>A program without a known proof</b>" in page) == (not is_proved)
+    assert ('<th scope="row">ccp, proved</th><td><code>%s</code>' % ("yes" if is_proved else "no")) in page
     assert hashlib.sha256(program.read_bytes()).hexdigest() in page
     for text in (FAULTY, (EXAMPLES / "delay.portus").read_text(), "".join("%d\n" % t for t in read_trace(TRACES[0]))):
         assert hashlib.sha256(text.encode()).hexdigest() in page
     assert "The judge said yes" in page and html.escape("2 traces, 6 cases") in page
     assert "{{" not in page and not re.search(r'(src|href)="(https?:)?//', page) and "url(" not in page
+
+
+def test_the_report_of_a_program_without_a_known_proof(program, tmp_path):
+    """A copy of the proved program is one too: nobody looked at it."""
+    copy = shutil.copy(program, tmp_path / "ccp")
+    words = [TRACES[0], "--senders", "reno", "--acks", "60", "--quiet", "--ccp", copy, "--out", tmp_path / "out"]
+    assert command("compare", *words).status == 0
+    page = (tmp_path / "out" / "report.html").read_text()
+    assert "<b>A program without a known proof</b>" in page and "<b>The proved program</b>" not in page
 
 
 def test_a_used_folder_and_compare_toml(compared, tmp_path, program):
@@ -285,6 +304,58 @@ def test_the_file_keeps_every_option(tmp_path):
     assert read.senders.words == given.senders.words
     assert [(one.label, one.seed) for one in read.losses] == [(one.label, one.seed) for one in given.losses]
     assert {**vars(read), "losses": None} == {**vars(given), "losses": None}
+
+
+@pytest.mark.parametrize("number, is_for_all, status", [(signal.SIGINT, True, 130), (signal.SIGTERM, False, 143)])
+def test_an_interrupt_ends_a_comparison(program, tmp_path, number, is_for_all, status):
+    """Silently and at once, also while plots are drawn in processes of their own; the folder can be used again."""
+    out = tmp_path / "out"
+    words = [sys.executable, "-m", "ccp_tools", "compare", TRACES[0], TRACES[1], "--senders", "reno,cubic"]
+    words += ["--acks", "2000", "--different-spans", "--out", out]
+    env = {**os.environ, "PYTHONPATH": str(REPOSITORY / "src")}
+    for step in ("figures", "plots"):
+        running = subprocess.Popen(
+            list(map(str, words)),
+            stdout=subprocess.PIPE,
+            stderr=subprocess.PIPE,
+            env=env,
+            text=True,
+            start_new_session=True,
+        )
+        shown = ""
+        while not shown.endswith(": %s\n" % step):
+            line = running.stderr.readline()
+            assert line, shown
+            shown += line
+        if step == "plots":
+            time.sleep(0.5)
+        (os.killpg if is_for_all else os.kill)(running.pid, number)
+        output, errors = running.communicate(timeout=30)
+        assert running.returncode == status and (output, errors) == ("", ""), (running.returncode, errors)
+        with pytest.raises(ProcessLookupError):
+            os.killpg(running.pid, 0)
+    made = command("compare", TRACES[0], "--senders", "reno", "--acks", "60", "--quiet", "--out", out)
+    assert made.status == 0 and (out / "report.html").exists() and not list(out.glob("*wave*")), made.errors
+
+
+def test_an_older_comparison_leaves_no_plot(compared, tmp_path, program):
+    """Neither its further pages and other forms, nor what a version without a list of files wrote."""
+    for has_list in (True, False):
+        out = tmp_path / ("listed" if has_list else "old")
+        shutil.copytree(compared, out)
+        older = ["bars.png", "bars-2.svg", "flows-wave-2.pdf", "rtt.svg", "scatter-3.eps", "shared-wave.svg"]
+        for name in older:
+            (out / name).write_text("older")
+        (out / "bars-mine.txt").write_text("kept")
+        names = json.loads((out / "files.json").read_text())
+        if has_list:
+            (out / "files.json").write_text(json.dumps(names + older))
+        else:
+            (out / "files.json").unlink()
+        words = [TRACES[0], "--senders", "reno", "--acks", "60", "--quiet", "--out", out]
+        assert command("compare", *words).status == 0
+        left = {path.name for path in out.iterdir()} - set(json.loads((out / "files.json").read_text()))
+        assert left == {"files.json", "bars-mine.txt", "printed", "errors"}, left
 
 
 def test_dry_run_writes_nothing(program, tmp_path):

@@ -5,6 +5,7 @@ import contextlib
 import io
 import json
 import os
+import signal
 import subprocess
 import sys
 import threading
@@ -271,22 +272,44 @@ def test_a_command_that_is_not_installed_is_named(tmp_path: Path, monkeypatch: p
     assert "apt-get install slurm-client" in over("--slurm", "--parts", "x", "/dev/null").errors
 
 
+# a signal, whether all processes get it or that of the command alone, and the status that it gives
+SIGNALS = [
+    (signal.SIGINT, True, 130),
+    (signal.SIGINT, False, 130),
+    (signal.SIGTERM, False, 143),
+    (signal.SIGHUP, True, 129),
+]
+
+
 @needs("parallel")
-def test_ctrl_c_keeps_the_parts_that_are_done(tmp_path: Path, program: Path) -> None:
+@pytest.mark.parametrize("number, is_for_all, status", SIGNALS)
+def test_an_interrupt_keeps_the_parts_that_are_done(
+    tmp_path: Path, program: Path, number: int, is_for_all: bool, status: int
+) -> None:
     path = saved(tmp_path, grid({"fixed": TEXTS["fixed"]}, [10, 20], 60))
-    slow = script(tmp_path, "slow", 's=$(cat)\n[[ $s != *cubic-20* ]] || sleep 100\n"%s" "$@" <<< "$s"\n' % program)
+    sleeps = 'if [[ $s == *cubic-20* ]]; then echo $$ > "%s/sleeper"; sleep 100; fi' % tmp_path
+    slow = script(tmp_path, "slow", 's=$(cat)\n%s\n"%s" "$@" <<< "$s"\n' % (sleeps, program))
     words = [sys.executable, "-m", "ccp_tools", "over", "--ccp", slow, "--size", "1", "--parts", tmp_path / "p", path]
     env = {**os.environ, "PYTHONPATH": str(REPOSITORY / "src")}
     running = subprocess.Popen(
         list(map(str, words)), stdout=subprocess.PIPE, stderr=subprocess.PIPE, env=env, start_new_session=True
     )
     until = time.monotonic() + 60
-    while len(list((tmp_path / "p").glob("*.result"))) < 3 and time.monotonic() < until:
+
+    def has_begun() -> bool:
+        return len(list((tmp_path / "p").glob("*.result"))) == 3 and (tmp_path / "sleeper").exists()
+
+    while not has_begun() and time.monotonic() < until:
         time.sleep(0.2)
-    os.killpg(running.pid, 2)
-    output, _ = running.communicate(timeout=60)
-    assert running.returncode == 130 and not output
+    (os.killpg if is_for_all else os.kill)(running.pid, number)
+    output, errors = running.communicate(timeout=60)
+    assert running.returncode == status and not output and b"Traceback" not in errors, errors
     assert len(list((tmp_path / "p").glob("*.result"))) == 3
+    # nothing runs on
+    sleeper = Path("/proc") / (tmp_path / "sleeper").read_text().strip() / "cmdline"
+    while sleeper.exists() and sleeper.read_bytes() and time.monotonic() < until:
+        time.sleep(0.1)
+    assert not (sleeper.exists() and sleeper.read_bytes())
 
 
 # ---- machines

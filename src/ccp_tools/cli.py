@@ -19,6 +19,7 @@ from typing import List, Sequence
 
 from .arguments import Parser
 from .errors import CcpError, UsageError
+from .interrupts import Ended, catch_signals
 from .tables import COMMANDS, PACKAGES
 
 
@@ -27,6 +28,7 @@ def main(arguments: Sequence[str]) -> int:
     words = list(arguments)
     open_streams()
     name = words[0] if words and words[0] in COMMANDS else ""
+    catch_signals()
     try:
         status = dispatch(words)
         sys.stdout.flush()
@@ -36,6 +38,8 @@ def main(arguments: Sequence[str]) -> int:
         return error.status
     except BrokenPipeError:
         return leave_pipe()
+    except Ended as ended:
+        return ended.status
     except KeyboardInterrupt:
         return 130
     except ModuleNotFoundError as error:

@@ -532,15 +532,15 @@ def groups(frame: pd.DataFrame, by: Sequence[str], names: Sequence[str] = tuple(
     """The cases of `figures` with equal values in the columns `by`, a row a group: `n` is the number of its cases, and
     of each figure `NAME_n` the number of cases that have it, `NAME_mean`, `NAME_sd` their standard deviation (divisor
     n - 1), and `NAME_ci95` half of the 95 % interval of the mean by Student's t. The order is that of the cases."""
-    grouped = frame.groupby(list(by), sort=False, dropna=False)
-    made = grouped.size().rename("n").to_frame()
+    values = frame[list(names)].astype("float64")
+    grouped = values.groupby([frame[name] for name in by], sort=False, dropna=False)
+    counts, means, deviations = grouped.count(), grouped.mean(), grouped.std()
+    made = {"n": grouped.size()}
     for name in names:
-        some = grouped[name].agg(["count", "mean", "std"]).astype("float64")
-        count = some["count"].to_numpy()
-        half = quantile_of_t(count - 1) * some["std"] / np.sqrt(np.maximum(count, 1))
-        made[name + "_n"] = count.astype(int)
-        made[name + "_mean"], made[name + "_sd"], made[name + "_ci95"] = some["mean"], some["std"], half
-    return made.reset_index()
+        count = counts[name].to_numpy()
+        made[name + "_n"], made[name + "_mean"], made[name + "_sd"] = counts[name], means[name], deviations[name]
+        made[name + "_ci95"] = quantile_of_t(count - 1) * deviations[name] / np.sqrt(np.maximum(count, 1))
+    return pd.DataFrame(made).reset_index()
 
 
 def quantile_of_t(degrees: np.ndarray) -> np.ndarray:

@@ -10,17 +10,20 @@ import os
 import re
 import shlex
 import shutil
+import signal
 import subprocess
 import sys
 import tempfile
 import threading
 import time
 import zipfile
+from contextlib import suppress
 from dataclasses import dataclass
 from pathlib import Path
 from typing import Any, Dict, List, Sequence, Tuple
 
 from .errors import CcpError, UsageError
+from .interrupts import without_interrupts
 from .parts import Part
 
 REFUSED = 3
@@ -191,7 +194,8 @@ class Progress:
 
     def __enter__(self) -> Progress:
         if not self.is_quiet:
-            self.shower.start()
+            with without_interrupts():
+                self.shower.start()
         return self
 
     def __exit__(self, *_: Any) -> None:
@@ -339,14 +343,23 @@ class Parallel(Runner):
         """Runs the parts that aren't done."""
         names = ["%06d.json" % at for at in self.folder.left()]
         words = [*self.command(), ":::", *names]
+        pipe = subprocess.PIPE
         try:
-            ran = subprocess.run(
-                words, cwd=self.folder.path, stdin=subprocess.DEVNULL, stdout=subprocess.PIPE, stderr=subprocess.PIPE
+            running = subprocess.Popen(
+                words, cwd=self.folder.path, stdin=subprocess.DEVNULL, stdout=subprocess.DEVNULL, stderr=pipe
             )
         except OSError as error:
             raise CcpError("parallel: %s" % error.strerror) from None
-        lines = ran.stderr.decode("utf-8", "replace").strip().split("\n")
-        self.last_error = lines[-1].strip()
+        errors = b""
+        try:
+            while running.returncode is None:
+                # a reading within the library isn't interrupted where a line of parallel comes with the signal
+                with suppress(subprocess.TimeoutExpired):
+                    _, errors = running.communicate(timeout=1)
+        except BaseException:
+            end_runs(running)
+            raise
+        self.last_error = errors.decode("utf-8", "replace").strip().split("\n")[-1].strip()
 
     def command(self) -> List[str]:
         """GNU parallel's words. A part is sent with what it needs, and its result comes back alone."""
@@ -367,6 +380,16 @@ class Parallel(Runner):
         if self.jobs:
             words += ["--jobs", self.jobs]
         return [*words, run]
+
+
+def end_runs(running: subprocess.Popen[bytes]) -> None:
+    """Ends GNU parallel, which ends its runs at a SIGINT; one that doesn't within ten seconds is killed."""
+    running.send_signal(signal.SIGINT)
+    try:
+        running.communicate(timeout=10)
+    except subprocess.TimeoutExpired:
+        running.kill()
+        running.wait()
 
 
 class Slurm(Runner):

@@ -38,7 +38,7 @@ OLD_FILES = (
     "scenario.json",
     "compare.toml",
 )
-OLD_PLOTS = ("bars*", "scatter*", "rtt*", "delay*", "flows-*", "overall*")
+OLD_PLOTS = ("bars*", "scatter*", "rtt*", "delay*", "flows-*", "overall*", "shared-*")
 MANIFEST = "files.json"
 # the most acknowledgements of a calibrating case of --dry-run
 TRIAL_ACKS = 256

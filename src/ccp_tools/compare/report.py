@@ -8,6 +8,7 @@ import gc
 import hashlib
 import multiprocessing
 import platform
+import signal
 import subprocess
 from dataclasses import dataclass
 from functools import partial
@@ -19,6 +20,7 @@ import pandas as pd
 from matplotlib.figure import Figure
 
 from .. import metrics, plots, program, slow_start
+from ..interrupts import without_interrupts
 from ..metrics import SHOWN, Window, counted
 from ..plots import Look
 from ..scenario_files import Scenario
@@ -105,8 +107,18 @@ def in_processes(work: Callable[[int], Any], count: int) -> List[Any]:
     FORKED["work"] = work
     # the processes end soon, and looking for garbage would copy the memory that they share
     gc.freeze()
-    with multiprocessing.get_context("fork").Pool(processors, initializer=gc.disable) as pool:
+    # an interrupt is for this process alone, which then ends them
+    with without_interrupts():
+        pool = multiprocessing.get_context("fork").Pool(processors, initializer=begin_forked)
+    with pool:
         return pool.map(forked, range(count), chunksize=1)
+
+
+def begin_forked() -> None:
+    """Has SIGTERM end a forked process silently, as the pool ends it."""
+    gc.disable()
+    signal.signal(signal.SIGTERM, signal.SIG_DFL)
+    signal.pthread_sigmask(signal.SIG_UNBLOCK, [signal.SIGTERM])
 
 
 # what a forked process runs; a function within another one can't be sent to it
@@ -488,9 +500,9 @@ def revision() -> str:
     if top is None:
         return "unknown"
     try:
-        ran = subprocess.run(
-            ["git", "-C", str(top), "rev-parse", "HEAD"], stdout=subprocess.PIPE, stderr=subprocess.DEVNULL, text=True
-        )
+        # also in a checkout of another user, which git otherwise refuses
+        words = ["git", "-c", "safe.directory=%s" % top, "-C", str(top), "rev-parse", "HEAD"]
+        ran = subprocess.run(words, stdout=subprocess.PIPE, stderr=subprocess.DEVNULL, text=True)
     except OSError:
         return "unknown"
     return ran.stdout.strip() or "unknown"
