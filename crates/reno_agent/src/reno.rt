@@ -114,7 +114,6 @@ impl Reno {
     }
 
     /// Replies to a report or a fault notice. One of another epoch than the agent's changes nothing.
-    #[tactic(auto, using(crate::proofs::RoleLemmas::kept_roles))]
     pub fn reply(&mut self, told: &Told) -> Reply
         ensures turn { (self.new, result) ≡ reno self.old told.now }
 
