@@ -1,0 +1,5 @@
+-- The lemmas of driven_flow, a file a topic.
+pub mod DrivenWordLemmas
+pub mod PartLemmas
+pub mod RoomLemmas
+pub mod StateLemmas

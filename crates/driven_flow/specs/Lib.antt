@@ -1,0 +1,8 @@
+-- The definitions of driven_flow, a file each.
+
+-- those that contracts of public calls cite: a driven flow's state after its word
+pub mod Driven
+-- those that only private contracts, invariants and proofs cite
+pub mod DrivenParts
+pub mod DrivenJournals
+pub mod DrivenStates
