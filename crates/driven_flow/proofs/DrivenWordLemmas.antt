@@ -8,9 +8,9 @@ use Rattle.ccp_base.specs.FieldReg.{Pair}
 use Rattle.flow_core.specs.declared.letter.Letter.{Letter}
 use Rattle.flow_core.specs.declared.letter.Letter.TheVariants.{A, T, C}
 use Rattle.flow_core.specs.Readings.{Flow}
-use Rattle.flow_core.specs.World.{World, Content, Failure, Taken, Answered, track_of, takeable, with_taken, after_take}
+use Rattle.flow_core.specs.World.{World, Content, Failure, Taken, Answered, track_of, takeable, with_taken}
 use Rattle.flow_core.specs.Words.{Giving, with_given}
-use Rattle.driven_flow.specs.Driven.{Given, with_values_given, with_answer, after_given, answered_by, after_letter, world_from, peak_from}
+use Rattle.driven_flow.specs.Driven.{Given, with_values_given, with_answer, answered_by, after_letter, world_from, peak_from}
 use Rattle.driven_flow.specs.DrivenStates.{answers_in}
 
 -- ---- a list that goes on

@@ -3,3 +3,4 @@ pub mod DrivenWordLemmas
 pub mod PartLemmas
 pub mod RoomLemmas
 pub mod StateLemmas
+pub mod DrivenLiftLemmas

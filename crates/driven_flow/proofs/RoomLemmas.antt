@@ -1,6 +1,6 @@
 -- The sums over the acknowledgements of a link that was given at most 65,536 windows are numbers of 64 bits.
-use Rattle.std.specs.Prelude.{◌≡◌, ℕ, zero, suc, ◌+◌, ◌-◌, ◌*◌, ◌<◌, ◌≤◌, Bool, if◌then◌else◌, List, [], ◌∷◌, ◌++◌, length}
-use Rattle.std.proofs.Common.{arith, ◌∙◌}
+use Rattle.std.specs.Prelude.{◌≡◌, ℕ, zero, suc, ◌+◌, ◌-◌, ◌*◌, ◌<◌, ◌≤◌, if◌then◌else◌, List, [], ◌∷◌, ◌++◌, length}
+use Rattle.std.proofs.Common.{arith}
 use Rattle.ccp_base.specs.declared.ack.Ack.{Ack}
 use Rattle.link_model.specs.declared.link_case.LinkCase.{LinkCase}
 use Rattle.link_model.specs.Link.{Packet, Numbered, GivenAck, Run, packet_and_lost_below, time_of, Next, arrives, all_lost, allowance, packet_after, with_sent, in_flight, next_arrival, answer_by, given_for, sent_by, called, run_from, run_of, acks_in_order, acks_for_windows}

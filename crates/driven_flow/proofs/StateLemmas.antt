@@ -1,5 +1,5 @@
 -- One more letter at a driven flow's word: what holds of all that it keeps holds after it.
-use Rattle.std.specs.Prelude.{Result, Ok, Err, OnOk, Bool, nat_lt, if◌then◌else◌, ◌≡◌, ℕ, ◌+◌, ◌*◌, ◌<◌, ◌≤◌, max, true, false, is_some, is_none, ◌&&◌, Option, Some, None, option_map, unwrap_or, List, [], ◌∷◌, ◌++◌, length, map, slice_get, refl}
+use Rattle.std.specs.Prelude.{Result, Ok, Err, OnOk, Bool, nat_lt, if◌then◌else◌, ◌≡◌, ℕ, ◌+◌, ◌<◌, ◌≤◌, max, true, false, is_some, is_none, ◌&&◌, Option, Some, None, option_map, unwrap_or, List, [], ◌∷◌, ◌++◌, length, map, slice_get, refl}
 use Rattle.std.proofs.Common.{arith, ap, sym, ◌∙◌, subst, length-append, append-nil}
 use Rattle.std.proofs.lemmas.List.{map-append}
 use Rattle.ccp_base.specs.FieldReg.{Pair}
@@ -7,7 +7,6 @@ use Rattle.ccp_base.specs.declared.ack.Ack.{Ack}
 use Rattle.ccp_base.specs.declared.arithmetic.FaultKind.{FaultKind}
 use Rattle.ccp_base.specs.declared.exchange.Notice.{Notice}
 use Rattle.ccp_base.specs.declared.exchange.Report.{Report}
-use Rattle.ccp_base.specs.declared.exchange.Told.{Told}
 use Rattle.ccp_base.specs.declared.exchange.Reply.TheVariants.{Nothing}
 use Rattle.portus_core.specs.declared.env.Env.{Env}
 use Rattle.portus_core.specs.Epoch.{Outcome, quiet, reported, held, failed, stopped, updated, with_values}
@@ -32,7 +31,7 @@ use Rattle.flow_core.specs.Readings.{Flow}
 use Rattle.flow_core.specs.ReservedLists.{ReservedState}
 use Rattle.flow_core.specs.States.{issued_as}
 use Rattle.flow_core.specs.Summaries.{Summary, summary, notice_after, outcome_at, step_ack, step_take, can_tell, may_make}
-use Rattle.flow_core.specs.World.{World, Content, Failure, Taken, Answered, Era, track_of, failures_met, after_ack, takeable, with_taken, after_take, notice_of, told_as}
+use Rattle.flow_core.specs.World.{World, Content, Failure, Taken, Answered, track_of, failures_met, after_ack, takeable, with_taken, after_take, notice_of, told_as}
 use Rattle.flow_core.specs.Words.{Giving, from_link}
 use Rattle.flow_core.proofs.SummaryLemmas.{summary-ack, summary-take, summary-legal}
 use Rattle.flow_core.proofs.WordLemmas.{take-keeps}
@@ -43,7 +42,7 @@ use Rattle.driven_flow.specs.declared.state.Opened.{Opened}
 use Rattle.reg_compiler.specs.declared.built.Built.{Built}
 use Rattle.driven_flow.specs.Driven.{Given, DrivenState, begun, with_values_given, with_answer, after_given, answered_by, world_from, peak_from, flow_by, world_by, peak_by, after_next, MayMake, told_out}
 use Rattle.driven_flow.specs.DrivenParts.{summary_by, IsParts, is_due_by, step_values, step_closed, step_out, step_given}
-use Rattle.driven_flow.specs.DrivenJournals.{with_item, with_some, journal_ack, journal_take, journal_answer, new_notice, Begins, Records}
+use Rattle.driven_flow.specs.DrivenJournals.{with_some, journal_ack, journal_take, journal_answer, new_notice, Begins, Records}
 use Rattle.driven_flow.specs.DrivenStates.{answers_in, with_letter, with_given, line_out, line_begun, IsOpened, IsDriven}
 use Rattle.driven_flow.proofs.RoomLemmas.{roomy-run}
 use Rattle.driven_flow.proofs.DrivenWordLemmas.{slice_get-last, answers-append, world-append, peak-append, world-more, peak-more}

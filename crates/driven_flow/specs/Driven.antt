@@ -1,5 +1,5 @@
 -- A flow whose changes and updates come from outside: how its programs are read, and its state after a word.
-use Rattle.std.specs.Prelude.{◌≡◌, ℕ, ◌==◌, ◌+◌, ◌*◌, ◌<◌, max, if◌then◌else◌, Bool, true, false, Option, Some, None, option_map}
+use Rattle.std.specs.Prelude.{◌≡◌, ℕ, ◌==◌, ◌*◌, ◌<◌, max, if◌then◌else◌, Bool, true, false, Option, Some, None, option_map}
 use Rattle.std.specs.Prelude.{List, [], ◌∷◌, ◌++◌, length, slice_get}
 use Rattle.std.specs.Option.{ForSome}
 use Rattle.ccp_base.specs.Limits.{most_fields, most_controls}
@@ -13,7 +13,10 @@ use Rattle.reg_code.specs.CodeStart.{declared_kept}
 use Rattle.reg_compiler.specs.declared.built.Built.{Built}
 use Rattle.flow_core.specs.declared.letter.Letter.{Letter}
 use Rattle.flow_core.specs.declared.letter.Letter.TheVariants.{A, T, C}
-use Rattle.flow_core.specs.LiveText.{Sources, source_at}
+use Rattle.campaign_core.specs.CampaignRow.{row_over}
+use Rattle.campaign_core.specs.CampaignWord.{next_of}
+use Rattle.flow_core.specs.Lift.{Placing, place_at, map_world}
+use Rattle.flow_core.specs.LiveText.{Sources, source_at, sources_of}
 use Rattle.flow_core.specs.Readings.{Flow, by_code, env_of}
 use Rattle.flow_core.specs.World.{World, Taken, track_of, time_of, era_of, with_event, after_take, told_as}
 use Rattle.flow_core.specs.Words.{Giving, with_given, from_link}
@@ -233,3 +236,28 @@ present_of s = (world_by s).present.program
 -- the state after one more letter, with the answers so far
 abbrev pub after_next : DrivenState → Letter → World ℕ
 after_next s letter = after_letter (flow_by s) (from_link (flow_by s) s.case.link) s.answers (world_by s) letter
+
+-- ---- the state, read over the sources
+
+-- the places of the instructions of the first program with this number; none if there is no such program
+abbrev pub places_of : List (ℕ × Built) → ℕ → List Place
+places_of [] number = []
+places_of (program ∷ rest) number = if program.0 == number then program.1.places else places_of rest number
+
+-- by a program's number and an instruction's index, its place
+abbrev pub placed_in : List (ℕ × Built) → Placing
+placed_in programs program = place_at (places_of programs program)
+
+abbrev pub sourced_by : DrivenState → Flow Place
+sourced_by s = over_sources (sources_of s.programs) s.case
+
+-- over the sources of its programs the flow has the same state, where each fault's instruction stands for its place, and
+-- the same greatest window, next letter, track and row
+pub record ReadsAlike (s : DrivenState) : Type 0 where
+  pub state : map_world (placed_in s.programs) (world_by s) ≡ state_by (sourced_by s) s
+  pub peak : peak_by (flow_by s) s ≡ peak_by (sourced_by s) s
+  pub next : next_of (flow_by s) s.case.lag (world_by s) ≡ next_of (sourced_by s) s.case.lag (state_by (sourced_by s) s)
+  pub track : track_of (flow_by s) (world_by s) ≡ track_of (sourced_by s) (state_by (sourced_by s) s)
+  pub row :
+      row_over (flow_by s) (world_by s) (peak_by (flow_by s) s)
+      ≡ row_over (sourced_by s) (state_by (sourced_by s) s) (peak_by (sourced_by s) s)

@@ -1,8 +1,7 @@
 -- The history of a driven flow: what a letter adds to the journal, and what the journal has.
-use Rattle.std.specs.Prelude.{◌≡◌, ◌+◌, ◌<◌, Option, Some, None, option_map, unwrap_or, List, [], ◌∷◌, ◌++◌, length, map}
+use Rattle.std.specs.Prelude.{◌≡◌, ◌<◌, Option, Some, None, [], ◌∷◌, ◌++◌, length, map}
 use Rattle.ccp_base.specs.declared.ack.Ack.{Ack}
 use Rattle.ccp_base.specs.declared.exchange.Notice.{Notice}
-use Rattle.ccp_base.specs.declared.exchange.Reply.TheVariants.{Nothing}
 use Rattle.fold_machine.specs.declared.acked.Acked.{Acked}
 use Rattle.fold_machine.specs.declared.acked.Acked.TheVariants.{Quiet, Reported, Held, Faulted, Stopped}
 use Rattle.flow_core.specs.declared.book.EpochLine.{EpochLine}

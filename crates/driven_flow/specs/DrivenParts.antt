@@ -4,7 +4,6 @@ use Rattle.ccp_base.specs.FieldReg.{Pair}
 use Rattle.ccp_base.specs.Limits.{most_acks}
 use Rattle.ccp_base.specs.declared.ack.Ack.{Ack}
 use Rattle.ccp_base.specs.declared.arithmetic.FaultKind.{FaultKind}
-use Rattle.portus_core.specs.declared.env.Env.{Env}
 use Rattle.portus_core.specs.Epoch.{Outcome, quiet, reported, held, failed, stopped, track_at, with_values}
 use Rattle.portus_core.specs.Reports.{report_of}
 use Rattle.slot_pool.specs.Pool.{free_of}

@@ -1,7 +1,6 @@
 -- All that a driven flow keeps, and what holds of it between letters.
-use Rattle.std.specs.Prelude.{◌≡◌, ℕ, ◌+◌, Option, Some, None, option_map, List, [], ◌∷◌, ◌++◌, length}
+use Rattle.std.specs.Prelude.{◌≡◌, ℕ, ◌+◌, Option, option_map, List, [], ◌∷◌, ◌++◌, length}
 use Rattle.ccp_base.specs.declared.exchange.Reply.TheVariants.{Nothing}
-use Rattle.ccp_base.specs.declared.exchange.Told.{Told}
 use Rattle.link_model.specs.Link.{acks_for_windows}
 use Rattle.link_model.specs.Standing.{LinkState, Stands}
 use Rattle.campaign_core.specs.declared.sums.Sums.{Sums}

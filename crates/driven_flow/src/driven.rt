@@ -2,7 +2,7 @@
 ghost use Rattle.std.specs.Prelude.{◌≡◌, ◌<◌, [], ◌∷◌, ◌++◌, length, map, true, None, Some, IfOk, OnOk, OnErr};
 ghost use Rattle.ccp_base.specs.FieldReg.{first_bad_pair};
 ghost use Rattle.driven_flow.specs.Driven.{code_in, is_known, is_known_for, bad_in, MayMake, told_out, world_by, flow_by};
-ghost use Rattle.driven_flow.specs.Driven.{present_of, after_next, after_given, peak_by};
+ghost use Rattle.driven_flow.specs.Driven.{present_of, after_next, after_given, peak_by, ReadsAlike};
 ghost use Rattle.campaign_core.specs.CampaignWord.{next_of};
 ghost use Rattle.campaign_core.specs.CampaignRow.{row_over};
 ghost use Rattle.flow_core.specs.Books.{ticket_line, epoch_line};
@@ -58,12 +58,12 @@ impl<'p> DrivenFlow<'p> {
         requires known { is_known programs.now program ≡ true }
         requires good { first_bad_pair (length (code_in programs.now program).controls) values.now ≡ None }
         ensures { IfOk result (λ driven. driven ≡ record {
-            case = case;
-            programs = programs.now;
-            program = program;
-            values = values.now;
-            answers = [];
-            word = [];
+          case = case;
+          programs = programs.now;
+          program = program;
+          values = values.now;
+          answers = [];
+          word = [];
         }) }
     {
         match Opened::of(alloc, &case, programs, program, values) {
@@ -135,8 +135,8 @@ impl<'p> DrivenFlow<'p> {
         requires known { is_known_for self.old.programs answer.now.program ≡ true }
         requires good { bad_in self.old.programs (present_of self.old) answer.now ≡ None }
         ensures ok { OnOk result (self.new ≡ record self.old {
-            answers = self.old.answers ++ answer.now ∷ [];
-            word = self.old.word ++ Letter.C ∷ [];
+          answers = self.old.answers ++ answer.now ∷ [];
+          word = self.old.word ++ Letter.C ∷ [];
         }) }
         ensures world { OnOk result (world_by self.new ≡ after_given (flow_by self.old) answer.now (world_by self.old)) }
         ensures unchanged { OnErr result (self.new ≡ self.old) }
@@ -251,4 +251,10 @@ impl<'p> DrivenFlow<'p> {
     {
         self.state.journal.faults.as_slice()
     }
+
+    /// A law: over the sources of the programs the flow has the same state, where each fault's instruction stands for
+    /// its place, and the same greatest window, next letter and row.
+    pub fn lift_law(&self)
+        ensures { ReadsAlike self.now }
+    {}
 }

@@ -104,7 +104,12 @@ impl Journal {
     }
 
     /// Records an answer with its ticket, and the epoch that it began, if it began one.
-    pub(crate) fn put_answer(&mut self, answer: &Answer, ticket: &TicketLine, epoch: Option<EpochLine>)
+    pub(crate) fn put_answer(
+        &mut self,
+        answer: &Answer,
+        ticket: &TicketLine,
+        epoch: Option<EpochLine>,
+    )
         requires { HasAnswerRoom self.old }
         ensures { self.new ≡ journal_answer answer.now ticket.now epoch self.old }
     {

@@ -85,12 +85,12 @@ impl<'p> State<'p> {
         requires { IsOpened programs.now case program values.now opened }
         ensures is { IsState result }
         ensures begun { driven_of result ≡ record {
-            case = case;
-            programs = programs.now;
-            program = program;
-            values = values.now;
-            answers = [];
-            word = [];
+          case = case;
+          programs = programs.now;
+          program = program;
+          values = values.now;
+          answers = [];
+          word = [];
         } }
     {
         let peak = opened.parts.machine.cwnd();
