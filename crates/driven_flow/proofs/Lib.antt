@@ -4,3 +4,5 @@ pub mod PartLemmas
 pub mod RoomLemmas
 pub mod StateLemmas
 pub mod DrivenLiftLemmas
+pub mod ReplyLemmas
+pub mod AgentLemmas

@@ -1,5 +1,5 @@
 -- What is kept of a driven flow after each step is the summary after it.
-use Rattle.std.specs.Prelude.{◌≡◌, ℕ, ◌+◌, ◌-◌, ◌<◌, ◌≤◌, Bool, true, false, not, nat_lt, ◌&&◌, is_none, is_some, Option, Some, None, option_map, unwrap_or, List, [], ◌∷◌, ◌++◌, length, drop, refl}
+use Rattle.std.specs.Prelude.{◌≡◌, ℕ, ◌+◌, ◌-◌, ◌<◌, ◌≤◌, Bool, true, false, nat_lt, ◌&&◌, is_none, is_some, Option, Some, None, unwrap_or, List, [], ◌∷◌, ◌++◌, length, drop, refl}
 use Rattle.std.proofs.Common.{ap, sym, ◌∙◌, subst, arith, length-append, append-nil}
 use Rattle.std.specs.FinMap as map
 use Rattle.std.specs.Ordering.{nat_cmp}

@@ -1,6 +1,7 @@
 -- One more letter at a driven flow's word: what holds of all that it keeps holds after it.
-use Rattle.std.specs.Prelude.{Result, Ok, Err, OnOk, Bool, nat_lt, if◌then◌else◌, ◌≡◌, ℕ, ◌+◌, ◌<◌, ◌≤◌, max, true, false, is_some, is_none, ◌&&◌, Option, Some, None, option_map, unwrap_or, List, [], ◌∷◌, ◌++◌, length, map, slice_get, refl}
+use Rattle.std.specs.Prelude.{Result, Ok, Err, OnOk, ◌≡◌, ℕ, ◌+◌, ◌<◌, ◌≤◌, max, true, false, is_some, Option, Some, None, option_map, unwrap_or, List, [], ◌∷◌, ◌++◌, length, map, slice_get, refl}
 use Rattle.std.proofs.Common.{arith, ap, sym, ◌∙◌, subst, length-append, append-nil}
+use Rattle.std.proofs.lemmas.Bool.{ltb-true}
 use Rattle.std.proofs.lemmas.List.{map-append}
 use Rattle.ccp_base.specs.FieldReg.{Pair}
 use Rattle.ccp_base.specs.declared.ack.Ack.{Ack}
@@ -15,9 +16,7 @@ use Rattle.link_model.specs.Link.{ack_after, acks_for_windows}
 use Rattle.link_model.specs.LinkLaws.{acks_of-push}
 use Rattle.link_model.specs.Standing.{Standing, LinkState, Stands}
 use Rattle.campaign_core.specs.declared.sums.Sums.{Sums}
-use Rattle.campaign_core.specs.CampaignRow.{sums_of, sums_with, AreRoomy, row_in, row_over}
-use Rattle.campaign_core.specs.BareLetters.{due_to}
-use Rattle.campaign_core.specs.CampaignWord.{is_late, first_letter, next_of}
+use Rattle.campaign_core.specs.CampaignRow.{sums_of, sums_with, AreRoomy}
 use Rattle.campaign_core.proofs.SumLemmas.{sums-append, calls-run}
 use Rattle.flow_core.specs.declared.bare.Issued.{Issued}
 use Rattle.flow_core.specs.declared.book.EpochLine.{EpochLine}
@@ -26,13 +25,15 @@ use Rattle.flow_core.specs.declared.letter.Letter.{Letter}
 use Rattle.flow_core.specs.declared.letter.Letter.TheVariants.{A, T, C}
 use Rattle.flow_core.specs.Books.{ticket_line, epoch_line}
 use Rattle.flow_core.specs.Cores.{acked_as}
-use Rattle.flow_core.specs.LiveText.{reports_told, report_count, end_of}
+use Rattle.flow_core.specs.LettersLeft.{letters_left}
+use Rattle.flow_core.specs.LiveText.{reports_told, report_count}
 use Rattle.flow_core.specs.Readings.{Flow}
 use Rattle.flow_core.specs.ReservedLists.{ReservedState}
-use Rattle.flow_core.specs.States.{issued_as}
-use Rattle.flow_core.specs.Summaries.{Summary, summary, notice_after, outcome_at, step_ack, step_take, can_tell, may_make}
+use Rattle.flow_core.specs.States.{issued_as, some_count}
+use Rattle.flow_core.specs.Summaries.{Summary, summary, notice_after, outcome_at, step_ack, step_take, may_make}
 use Rattle.flow_core.specs.World.{World, Content, Failure, Taken, Answered, track_of, failures_met, after_ack, takeable, with_taken, after_take, notice_of, told_as}
 use Rattle.flow_core.specs.Words.{Giving, from_link}
+use Rattle.flow_core.proofs.LeftLemmas.{left-ack, left-take}
 use Rattle.flow_core.proofs.SummaryLemmas.{summary-ack, summary-take, summary-legal}
 use Rattle.flow_core.proofs.WordLemmas.{take-keeps}
 use Rattle.driven_flow.specs.declared.case.DrivenCase.{DrivenCase}
@@ -40,8 +41,8 @@ use Rattle.driven_flow.specs.declared.journal.Journal.{Journal}
 use Rattle.driven_flow.specs.declared.parts.Parts.{Parts}
 use Rattle.driven_flow.specs.declared.state.Opened.{Opened}
 use Rattle.reg_compiler.specs.declared.built.Built.{Built}
-use Rattle.driven_flow.specs.Driven.{Given, DrivenState, begun, with_values_given, with_answer, after_given, answered_by, world_from, peak_from, flow_by, world_by, peak_by, after_next, MayMake, told_out}
-use Rattle.driven_flow.specs.DrivenParts.{summary_by, IsParts, is_due_by, step_values, step_closed, step_out, step_given}
+use Rattle.driven_flow.specs.Driven.{Given, DrivenState, left_of, begun, with_values_given, with_answer, after_given, answered_by, world_from, peak_from, flow_by, world_by, peak_by, after_next, MayMake, told_out}
+use Rattle.driven_flow.specs.DrivenParts.{summary_by, IsParts, step_values, step_closed, step_out, step_given}
 use Rattle.driven_flow.specs.DrivenJournals.{with_some, journal_ack, journal_take, journal_answer, new_notice, Begins, Records}
 use Rattle.driven_flow.specs.DrivenStates.{answers_in, with_letter, with_given, line_out, line_begun, IsOpened, IsDriven}
 use Rattle.driven_flow.proofs.RoomLemmas.{roomy-run}
@@ -307,9 +308,6 @@ module _ (d : DrivenState) (parts : Parts) (link : LinkState) (j : Journal) (sum
   pub present-same : parts.epoch.program ≡ w.present.program
   present-same = ap (λ (s : Summary). s.program) is.stands
 
-  pub acks-same : parts.acks ≡ length w.acks
-  acks-same = ap (λ (s : Summary). s.acks) is.stands
-
   -- ---- an acknowledgement
 
   module _ (ack : Ack) (is_ack : ack ≡ ack_after d.case.link w.windows (track_of flow w).env.cwnd) where
@@ -459,45 +457,71 @@ module _ (d : DrivenState) (parts : Parts) (link : LinkState) (j : Journal) (sum
 
 -- ---- the state after one more letter
 
+world-grown : (d : DrivenState) (letter : Letter) → world_by (with_letter letter d) ≡ after_next d letter
+world-grown d letter =
+    world-append (flow_by d) (from_link (flow_by d) d.case.link) d.answers d.word letter (begun (flow_by d) d.case.link.mss d.program d.values)
+
 pub world-next : {R E : Type 0} (result : Result R E) (d d' : DrivenState) (letter : Letter) → OnOk result (d' ≡ with_letter letter d)
     → OnOk result (world_by d' ≡ after_next d letter)
-world-next (Ok r) d d' letter grown =
-    ap world_by grown
-    ∙ world-append (flow_by d) (from_link (flow_by d) d.case.link) d.answers d.word letter (begun (flow_by d) d.case.link.mss d.program d.values)
+world-next (Ok r) d d' letter grown = ap world_by grown ∙ world-grown d letter
 world-next (Err e) d d' letter grown = tt
 
--- ---- the next letter
+-- ---- how many letters can come yet
 
-due-same : (reading : Flow ℕ) (more : Bool) (lag acks : ℕ) (out : Option (Taken ℕ))
-    → due_to more lag acks (option_map (λ (issued : Issued). issued.taken) (option_map (issued_as reading) out))
-    ≡ (if more then is_late lag acks out else is_some out)
-due-same reading true lag acks None = refl
-due-same reading false lag acks None = refl
-due-same reading true lag acks (Some ticket) = refl
-due-same reading false lag acks (Some ticket) = refl
+-- not an answer
+abbrev pub IsPlain : Letter → Type 0
+IsPlain A = Unit {0}
+IsPlain T = Unit {0}
+IsPlain C = ⊥
+
+values-left : {X : Type 0} (flow : Flow X) (program : Option ℕ) (values : List Pair) (w : World X)
+    → letters_left flow (with_values_given flow program values w) ≤ letters_left flow w
+values-left flow None [] w = omega arith
+values-left flow None (pair ∷ rest) w = omega arith
+values-left flow (Some program) values w = omega arith
+
+given-left : {X : Type 0} (flow : Flow X) (given : Given) (out : Option (Taken X)) (w : World X) → w.out ≡ out → is_some out ≡ true
+    → letters_left flow (with_answer flow given out w) < letters_left flow w
+given-left flow given None w is some = absurd (let wrong : false ≡ true = some in (cc))
+given-left flow given (Some ticket) w is some =
+    let one = ap some_count is in
+    let fewer = values-left flow given.program given.values (shut flow ticket w) in
+    omega (arith, one, fewer)
+
+-- a legal letter leaves fewer
+pub left-next : {R E : Type 0} (result : Result R E) (d d' : DrivenState) (letter : Letter) → IsPlain letter → MayMake d letter
+    → OnOk result (d' ≡ with_letter letter d) → OnOk result (left_of d' < left_of d)
+left-next (Err e) d d' letter plain may grown = tt
+left-next (Ok r) d d' A plain may grown =
+    let flow = flow_by d in
+    let w = world_by d in
+    let next : world_by (with_letter A d) ≡ after_ack flow (ack_after d.case.link w.windows (track_of flow w).env.cwnd) w = world-grown d A in
+    subst (λ (e : DrivenState). left_of e < left_of d) (sym grown)
+    (subst (λ (u : World ℕ). letters_left flow u < letters_left flow w) (sym next)
+    (left-ack flow (ack_after d.case.link w.windows (track_of flow w).env.cwnd) w (ltb-true (length w.acks) flow.acks may)))
+left-next (Ok r) d d' T plain may grown =
+    let flow = flow_by d in
+    let w = world_by d in
+    let next : world_by (with_letter T d) ≡ after_take w = world-grown d T in
+    subst (λ (e : DrivenState). left_of e < left_of d) (sym grown)
+    (subst (λ (u : World ℕ). letters_left flow u < letters_left flow w) (sym next) (left-take flow w may))
+left-next (Ok r) d d' C plain may grown = absurd plain
+
+pub left-given : (d d' : DrivenState) (given : Given) → MayMake d C → d' ≡ with_given given d
+    → world_by d' ≡ after_given (flow_by d) given (world_by d) → left_of d' < left_of d
+left-given d d' given may grown world =
+    let flow = flow_by d in
+    let w = world_by d in
+    let same : left_of d' ≡ letters_left flow (world_by d') = ap (λ (e : DrivenState). letters_left (flow_by e) (world_by d')) grown in
+    subst (λ (n : ℕ). n < left_of d) (sym (same ∙ ap (letters_left flow) world)) (given-left flow given w.out w refl may)
+
+-- ---- the ticket that is out
+
+told-mapped : (reading : Flow ℕ) (out : Option (Taken ℕ))
+    → option_map (λ (issued : Issued). issued.told) (option_map (issued_as reading) out) ≡ option_map (λ (ticket : Taken ℕ). told_as reading ticket.told) out
+told-mapped reading None = refl
+told-mapped reading (Some ticket) = refl
 
 module _ (d : DrivenState) (parts : Parts) (link : LinkState) (j : Journal) (sums : Sums) (peak : ℕ) (is : IsDriven d parts link j sums peak) where
-  pub next-same : first_letter (is_due_by d.case (summary_by parts)) (is_none parts.out && can_tell (summary_by parts)) (nat_lt parts.acks d.case.acks)
-      ≡ next_of (flow_by d) d.case.lag (world_by d)
-  next-same =
-      let flow = flow_by d in
-      let w = world_by d in
-      (λ i. first_letter (is_due_by d.case (is.stands i)) (is_none (is.stands i).out && can_tell (is.stands i)) (nat_lt (is.stands i).acks d.case.acks))
-      ∙ (λ i. first_letter (due-same flow (nat_lt (length w.acks) d.case.acks) d.case.lag (length w.acks) w.out i) (sym (summary-legal flow T w) i) (nat_lt (length w.acks) d.case.acks))
-
-  pub row-same : row_in (summary_by parts) sums peak ≡ row_over (flow_by d) (world_by d) (peak_by (flow_by d) d)
-  row-same = λ i. row_in (is.stands i) (is.summed i) (is.greatest i)
-
-  pub end-same : end_of parts.acks (summary_by parts).track ≡ end_of (length (world_by d).acks) (track_of (flow_by d) (world_by d))
-  end-same = λ i. end_of (is.stands i).acks (is.stands i).track
-
-  told-mapped : (reading : Flow ℕ) (out : Option (Taken ℕ))
-      → option_map (λ (issued : Issued). issued.told) (option_map (issued_as reading) out) ≡ option_map (λ (ticket : Taken ℕ). told_as reading ticket.told) out
-  told-mapped reading None = refl
-  told-mapped reading (Some ticket) = refl
-
   pub told-same : option_map (λ (issued : Issued). issued.told) parts.out ≡ told_out (flow_by d) (world_by d)
   told-same = ap (λ (s : Summary). option_map (λ (issued : Issued). issued.told) s.out) is.stands ∙ told-mapped (flow_by d) (world_by d).out
-
-  pub held-same : parts.held ≡ (world_by d).held
-  held-same = ap (λ (s : Summary). s.held) is.stands

@@ -15,6 +15,7 @@ use Rattle.flow_core.specs.declared.letter.Letter.{Letter}
 use Rattle.flow_core.specs.declared.letter.Letter.TheVariants.{A, T, C}
 use Rattle.campaign_core.specs.CampaignRow.{row_over}
 use Rattle.campaign_core.specs.CampaignWord.{next_of}
+use Rattle.flow_core.specs.LettersLeft.{letters_left}
 use Rattle.flow_core.specs.Lift.{Placing, place_at, map_world}
 use Rattle.flow_core.specs.LiveText.{Sources, source_at, sources_of}
 use Rattle.flow_core.specs.Readings.{Flow, by_code, env_of}
@@ -236,6 +237,10 @@ present_of s = (world_by s).present.program
 -- the state after one more letter, with the answers so far
 abbrev pub after_next : DrivenState → Letter → World ℕ
 after_next s letter = after_letter (flow_by s) (from_link (flow_by s) s.case.link) s.answers (world_by s) letter
+
+-- how many letters the word can have yet
+abbrev pub left_of : DrivenState → ℕ
+left_of s = letters_left (flow_by s) (world_by s)
 
 -- ---- the state, read over the sources
 

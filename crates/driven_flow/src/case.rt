@@ -2,7 +2,7 @@
 ghost use Rattle.std.specs.Prelude.{◌≡◌, ◌≤◌, IfOk};
 ghost use Rattle.ccp_base.specs.Limits.{most_acks, most_slots, most_lag};
 
-use ccp_base::{Name, NoMemory};
+use ccp_base::{Name, NoMemory, initial_segments};
 use link_model::{Link, LinkCase};
 use std::alloc::Global;
 
@@ -27,6 +27,29 @@ pub struct DrivenCase {
 impl DrivenCase {
     ghost use Rattle.std.specs.Prelude.{[]};
     ghost use Rattle.link_model.specs.Standing.{Stands};
+    ghost use Rattle.driven_flow.specs.Driven.{initial_window};
+
+    /// An equal case.
+    pub fn copy(&self, alloc: Global) -> Result<DrivenCase, NoMemory>
+        ensures { IfOk result (λ case. case ≡ self.now) }
+    {
+        let link = self.link.copy(alloc)?;
+        Ok(DrivenCase {
+            flow: self.flow,
+            name: self.name,
+            link,
+            acks: self.acks,
+            slots: self.slots,
+            lag: self.lag,
+        })
+    }
+
+    /// The window before the first change, in bytes: the initial window of its segment's size.
+    pub fn initial_window(&self) -> u64
+        ensures { result ≡ initial_window self.now.link.mss }
+    {
+        initial_segments(self.link.mss) * u64::from(self.link.mss)
+    }
 
     /// The case's link, to which no window was given yet.
     pub(crate) fn open_link(&self, alloc: Global) -> Result<Link, NoMemory>

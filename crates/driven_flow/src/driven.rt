@@ -2,7 +2,9 @@
 ghost use Rattle.std.specs.Prelude.{◌≡◌, ◌<◌, [], ◌∷◌, ◌++◌, length, map, true, None, Some, IfOk, OnOk, OnErr};
 ghost use Rattle.ccp_base.specs.FieldReg.{first_bad_pair};
 ghost use Rattle.driven_flow.specs.Driven.{code_in, is_known, is_known_for, bad_in, MayMake, told_out, world_by, flow_by};
-ghost use Rattle.driven_flow.specs.Driven.{present_of, after_next, after_given, peak_by, ReadsAlike};
+ghost use Rattle.driven_flow.specs.Driven.{present_of, after_next, after_given, left_of, peak_by};
+ghost use Rattle.driven_flow.specs.Driven.{ReadsAlike};
+ghost use Rattle.driven_flow.specs.AgentLaw.{IsOfCase, IsAgentFlow};
 ghost use Rattle.campaign_core.specs.CampaignWord.{next_of};
 ghost use Rattle.campaign_core.specs.CampaignRow.{row_over};
 ghost use Rattle.flow_core.specs.Books.{ticket_line, epoch_line};
@@ -15,7 +17,7 @@ use crate::programs::is_known;
 use crate::state::{Opened, State, first_letter};
 use campaign_core::Row;
 use ccp_base::{Ack, Fields, NoMemory, Notice, Told};
-use flow_core::{EpochLine, Letter, TicketLine};
+use flow_core::{Case, EpochLine, Letter, TicketLine};
 use fold_machine::Steps;
 use reg_compiler::Built;
 use report_lines::End;
@@ -83,6 +85,7 @@ impl<'p> DrivenFlow<'p> {
         requires { MayMake self.old Letter.A }
         ensures ok { OnOk result (self.new ≡ record self.old { word = self.old.word ++ Letter.A ∷ [] }) }
         ensures world { OnOk result (world_by self.new ≡ after_next self.old Letter.A) }
+        ensures fewer { OnOk result (left_of self.new < left_of self.old) }
         ensures unchanged { OnErr result (self.new ≡ self.old) }
     {
         self.hear_in_ledger::<Brand>(Blank::new(1))
@@ -109,6 +112,7 @@ impl<'p> DrivenFlow<'p> {
         requires { MayMake self.old Letter.T }
         ensures ok { OnOk result (self.new ≡ record self.old { word = self.old.word ++ Letter.T ∷ [] }) }
         ensures world { OnOk result (world_by self.new ≡ after_next self.old Letter.T) }
+        ensures fewer { OnOk result (left_of self.new < left_of self.old) }
         ensures told { IfOk result (λ told. told_out (flow_by self.new) (world_by self.new) ≡ Some told) }
         ensures unchanged { OnErr result (self.new ≡ self.old) }
     {
@@ -139,6 +143,7 @@ impl<'p> DrivenFlow<'p> {
           word = self.old.word ++ Letter.C ∷ [];
         }) }
         ensures world { OnOk result (world_by self.new ≡ after_given (flow_by self.old) answer.now (world_by self.old)) }
+        ensures fewer { OnOk result (left_of self.new < left_of self.old) }
         ensures unchanged { OnErr result (self.new ≡ self.old) }
     {
         self.state.journal.reserve_answer()?;
@@ -257,4 +262,12 @@ impl<'p> DrivenFlow<'p> {
     pub fn lift_law(&self)
         ensures { ReadsAlike self.now }
     {}
+
+    /// A law: if the answers are those that a case's agent gives on the word, from its opening change on, the state is
+    /// that of the case's flow after the word, without the agent, and the row is its row.
+    pub fn agent_law(&self, case: &Case)
+        ensures { IsOfCase self.now case.now → IsAgentFlow self.now case.now }
+    {
+        let _ = case;
+    }
 }

@@ -13,4 +13,4 @@ mod state;
 pub use answer::Answer;
 pub use case::DrivenCase;
 pub use driven::DrivenFlow;
-pub use programs::is_known;
+pub use programs::{first_bad, is_known};

@@ -11,7 +11,6 @@ ghost use Rattle.flow_core.specs.LiveText.{reports_told, end_of};
 ghost use Rattle.flow_core.specs.States.{outcome_by};
 ghost use Rattle.flow_core.specs.Summaries.{summary, step_ack, step_take, outcome_at, can_tell};
 ghost use Rattle.driven_flow.specs.Driven.{over_codes, code_in, is_known, is_known_for, bad_in, begun};
-ghost use Rattle.driven_flow.specs.Driven.{initial_window};
 ghost use Rattle.driven_flow.specs.DrivenParts.{summary_by, IsParts, CanNote, HasSpace, Notes, closed, Updates, Changes};
 ghost use Rattle.driven_flow.specs.DrivenParts.{Obeys, step_given, IsFirstMachine, is_due_by};
 
@@ -20,7 +19,7 @@ use crate::case::DrivenCase;
 use crate::machine_calls::{pop_told, put_report, run};
 use crate::programs::code_of;
 use campaign_core::{Row, Sums};
-use ccp_base::{Ack, FaultKind, Fields, NoMemory, Told, initial_segments};
+use ccp_base::{Ack, FaultKind, Fields, NoMemory, Told};
 use flow_core::{Issued, Outbox, RunningEpoch};
 use fold_machine::{Acked, Machine, Steps};
 use reg_compiler::Built;
@@ -50,13 +49,6 @@ pub(crate) struct Parts {
     pub(crate) held: u32,
 }
 
-/// The window before the first change, in bytes.
-pub(crate) fn initial_window(mss: u32) -> u64
-    ensures { result ≡ initial_window mss }
-{
-    initial_segments(mss) * u64::from(mss)
-}
-
 /// The machine of a flow that has no letter yet: it runs this program with these values.
 fn first_machine(
     alloc: Global,
@@ -69,7 +61,7 @@ fn first_machine(
     requires good { first_bad_pair (length (code_in programs.now program).controls) values.now ≡ None }
     ensures { IfOk result (IsFirstMachine programs.now case.now program values.now) }
 {
-    let window = initial_window(case.link.mss);
+    let window = case.initial_window();
     let mut machine = Machine::roomy(alloc, window, 0, case.slots)?;
     let Ok(()) = machine.start(code_of(programs, program), values, 0) else {
         unreachable!()

@@ -11,7 +11,7 @@ use crate::answer::Answer;
 use crate::case::DrivenCase;
 use crate::journal::{Journal, new_notice};
 use crate::parts::Parts;
-use crate::programs::code_of;
+use crate::programs::first_bad;
 use campaign_core::Sums;
 use ccp_base::{Fields, NoMemory, Reply, Told};
 use flow_core::{EpochLine, Letter, TicketLine};
@@ -151,8 +151,7 @@ impl<'p> State<'p> {
             None => self.parts.epoch.program,
             Some(program) => program,
         };
-        let code = code_of(self.programs, program).code();
-        answer.values.first_bad(code.controls.len())
+        first_bad(self.programs, program, &answer.values)
     }
 
     /// Applies an answer to the ticket that is out.
