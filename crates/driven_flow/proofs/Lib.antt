@@ -1,0 +1,8 @@
+-- The lemmas of driven_flow, a file a topic.
+pub mod DrivenWordLemmas
+pub mod PartLemmas
+pub mod RoomLemmas
+pub mod StateLemmas
+pub mod DrivenLiftLemmas
+pub mod ReplyLemmas
+pub mod AgentLemmas

@@ -1,0 +1,16 @@
+//! A flow whose changes and updates come from outside: its link, its programs and its history, driven letter by letter.
+#![tactic(auto)]
+
+mod answer;
+mod case;
+mod driven;
+mod journal;
+mod machine_calls;
+mod parts;
+mod programs;
+mod state;
+
+pub use answer::Answer;
+pub use case::DrivenCase;
+pub use driven::DrivenFlow;
+pub use programs::{first_bad, is_known};
