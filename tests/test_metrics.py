@@ -4,6 +4,7 @@ from __future__ import annotations
 import io
 import json
 import math
+import warnings
 from pathlib import Path
 
 import pytest
@@ -217,3 +218,14 @@ def test_the_command(files):
 def test_what_the_command_refuses(files, words, status, error):
     made = run_inside("metrics", files["scenario"], *(word.format(**files) for word in words))
     assert (made.status, made.output) == (status, "") and error in made.errors and "Traceback" not in made.errors
+
+
+def test_groups_of_all_figures_warn_of_nothing():
+    """Every figure that there is, over two columns of which one has no value; pandas' warnings would reach the user."""
+    rows = [{"trace": "t", "seed": seed, **{name: float(seed) for name in metrics.METRICS}} for seed in (1, 2, 3)]
+    with warnings.catch_warnings():
+        warnings.simplefilter("error")
+        made = metrics.groups(pd.DataFrame(rows).assign(mark=None), ["trace", "mark"])
+    assert len(made) == 1 and made["n"][0] == 3 and list(made)[:3] == ["trace", "mark", "n"]
+    for name in metrics.METRICS:
+        assert [made[name + kind][0] for kind in ("_n", "_mean", "_sd")] == [3, 2, 1], name

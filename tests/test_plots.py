@@ -7,14 +7,16 @@ from pathlib import Path
 
 import pytest
 from inside import run_inside
-from support import EXAMPLES, command, needs, require
+from support import EXAMPLES, TRACES, command, needs, require
 
 pytestmark = needs("import matplotlib", "import pandas")
 require("matplotlib")
 pd = require("pandas")
+np = require("numpy")
 
-from ccp_tools import plots  # noqa: E402
+from ccp_tools import plots, program as programs, scenario  # noqa: E402
 from ccp_tools.errors import CcpError  # noqa: E402
+from ccp_tools.frames import acks_in, read_timeline  # noqa: E402
 from ccp_tools.plots import series  # noqa: E402
 from ccp_tools.plots.points import spread_of  # noqa: E402
 
@@ -202,6 +204,21 @@ def test_more_senders_than_a_plot_shows():
     rows = [{**METRICS["cases"][0], "sender": "s%d" % at, "case": "c%d" % at} for at in range(9)]
     with pytest.raises(CcpError, match="9 senders"):
         plots.bars(plots.points_of(pd.DataFrame(rows)), ["throughput_mbps"])
+
+
+def test_windows_of_a_short_run_are_no_combs(program):
+    """Each value is that of a round trip or more: shorter windows would show the bursts of slow start alone."""
+    made = scenario.make(["--senders", "reno,cubic", "--acks", "60", "--delay-ms", "20", "--", str(TRACES[0])])
+    acks = {flow.number: flow for flow in acks_in(programs.run("acks", made, program=program).output)}
+    timeline = read_timeline(programs.run("timeline", made, program=program).output)
+    (figure,) = plots.flows(timeline, None, made, acks)
+    throughput = figure.axes[0]
+    for line in throughput.lines[::2]:
+        assert np.diff(line.get_xdata()).min() > 0.0199
+        values = line.get_ydata()
+        # after the first round trip nothing falls to 0 and rises again
+        assert (values[1:] > 0).all(), values
+    assert figure.axes[-1].get_xlim()[1] < 0.2
 
 
 def test_no_step_reaches_over_a_break():

@@ -28,7 +28,7 @@ find_anew() {
         return
     fi
     judge_programs
-    if [ "$finding" != built ]; then
+    if [ "$finding" != built ] && [ -z "${is_known_to_user-}" ]; then
         printf 'ccp: %s can'\''t be written, so each run sums up the sources: XDG_CACHE_HOME=FOLDER names another place\n' "$kept" >&2
     fi
 }
