@@ -8,7 +8,6 @@ mod general;
 mod kept;
 mod laws;
 mod machine;
-mod mirrored_forms;
 mod operands;
 mod places;
 mod places_forms;
