@@ -10,8 +10,9 @@ ghost use Rattle.feed_core.specs.FeedBytes.{answer_to};
 ghost use Rattle.feed_core.specs.FeedEnds.{AreHandedOn};
 ghost use Rattle.feed_core.specs.FeedStops.{StopsAnswer};
 
+use crate::duplex::{Duplex, hand_over};
 use crate::feed::Feed;
-use ccp_base::{NoMemory, Sink, write_all};
+use ccp_base::NoMemory;
 use ccp_messages::{Message, encode_into};
 use reply_frames::Version;
 use std::alloc::Global;
@@ -39,47 +40,53 @@ impl From<NoMemory> for Unanswered {
 }
 
 /// Answers a message, and writes the answer and hands it on. Only a Create of a flow that doesn't exist takes memory.
-pub fn answer<K: Sink>(
+pub fn answer<D: Duplex>(
     alloc: Global,
     feed: &mut Feed,
     message: Message,
     version: Version,
-    sink: &mut K,
+    duplex: &mut D,
 ) -> Result<(), Unanswered>
     requires few { feed.old.messages < most_messages }
     ensures state { OnOk result (feed.new ≡ (answer_message feed.old message version).1) }
     ensures one { OnOk result (feed.new.messages ≡ feed.old.messages + 1) }
     ensures written { OnOk result
-        (Appends (K.written sink.old) (K.written sink.new) (answer_to feed.old message version)) }
-    ensures handed { OnOk result (AreHandedOn (answer_to feed.old message version) (K.is_finished sink.new)) }
-    ensures kept { OnOk result (K.is_finished sink.old → K.is_finished sink.new) }
-    ensures counted { K.faults sink.old ≤ K.faults sink.new }
-    ensures err { IfErr result (StopsAnswer (K.faults sink.old) (K.faults sink.new)
-        (K.written sink.old) (K.written sink.new) (answer_to feed.old message version)) }
+        (Appends (D.written duplex.old) (D.written duplex.new) (answer_to feed.old message version)) }
+    ensures handed { OnOk result (AreHandedOn (answer_to feed.old message version) (D.is_finished duplex.new)) }
+    ensures kept { OnOk result (D.is_finished duplex.old → D.is_finished duplex.new) }
+    ensures follows { D.Follows duplex.old duplex.new }
+    ensures remaining { D.remaining duplex.new ≡ D.remaining duplex.old }
+    ensures read_faults { D.read_faults duplex.new ≡ D.read_faults duplex.old }
+    ensures counted { D.write_faults duplex.old ≤ D.write_faults duplex.new }
+    ensures err { IfErr result (StopsAnswer (D.write_faults duplex.old) (D.write_faults duplex.new)
+        (D.written duplex.old) (D.written duplex.new) (answer_to feed.old message version)) }
     ensures memory { result ≡ Err Unanswered.NoMemory → TakesMemory feed.old message }
-    ensures untouched { result ≡ Err Unanswered.NoMemory → sink.new ≡ sink.old }
+    ensures untouched { result ≡ Err Unanswered.NoMemory → duplex.new ≡ duplex.old }
 {
     match feed.frame(alloc, message, version)? {
         None => Ok(()),
-        Some((message, version)) => write(sink, &message, version),
+        Some((message, version)) => write(duplex, &message, version),
     }
 }
 
 /// Writes the frame of a message, and hands it on.
-fn write<K: Sink>(sink: &mut K, message: &Message, version: Version) -> Result<(), Unanswered>
+fn write<D: Duplex>(duplex: &mut D, message: &Message, version: Version) -> Result<(), Unanswered>
     requires meets { Meets version message.now }
     requires fits { length (frame_bytes version message.now) ≤ longest_answer }
     ensures written { OnOk result
-        (Appends (K.written sink.old) (K.written sink.new) (frame_bytes version message.now)) }
-    ensures finished { OnOk result (K.is_finished sink.new) }
-    ensures counted { K.faults sink.old ≤ K.faults sink.new }
-    ensures err { IfErr result (StopsAnswer (K.faults sink.old) (K.faults sink.new)
-        (K.written sink.old) (K.written sink.new) (frame_bytes version message.now)) }
+        (Appends (D.written duplex.old) (D.written duplex.new) (frame_bytes version message.now)) }
+    ensures finished { OnOk result (D.is_finished duplex.new) }
+    ensures follows { D.Follows duplex.old duplex.new }
+    ensures remaining { D.remaining duplex.new ≡ D.remaining duplex.old }
+    ensures read_faults { D.read_faults duplex.new ≡ D.read_faults duplex.old }
+    ensures counted { D.write_faults duplex.old ≤ D.write_faults duplex.new }
+    ensures err { IfErr result (StopsAnswer (D.write_faults duplex.old) (D.write_faults duplex.new)
+        (D.written duplex.old) (D.written duplex.new) (frame_bytes version message.now)) }
     ensures failed { IfErr result (λ why. why ≡ Unanswered.Write) }
 {
     let mut out = [0u8; LONGEST];
     match encode_into(message, version, &mut out) {
-        Ok(size) => match write_all(sink, &out[..size]) {
+        Ok(size) => match hand_over(duplex, &out[..size]) {
             Ok(()) => Ok(()),
             Err(_) => Err(Unanswered::Write),
         },

@@ -3,6 +3,7 @@
 
 mod answering;
 pub mod calls;
+mod duplex;
 mod ending;
 mod feed;
 mod flow;
@@ -12,6 +13,7 @@ mod rest;
 mod tables;
 mod turn;
 
+pub use duplex::Duplex;
 pub use ending::FeedEnd;
 pub use feed::Feed;
 pub use flow::{Epoch, Flow};

@@ -21,9 +21,9 @@ returns-in-Ok-answer-clause-turn g c =
 
 pub returns-in-Err-clause-turn : goal.returns-in-Err-clause-turn
 returns-in-Err-clause-turn g c =
-    subst (IsTurn (g.K.Sink.faults c.args.sink.now) (g.K.Sink.faults c.args.sink.now) (g.K.Sink.is_finished c.args.sink.now) (g.K.Sink.written c.args.sink.now) (g.K.Sink.written c.args.sink.now) c.args.feed.now c.args.feed.now c.args.bytes.now)
+    subst (IsTurn (g.D.Duplex.write_faults c.args.duplex.now) (g.D.Duplex.write_faults c.args.duplex.now) (g.D.Duplex.is_finished c.args.duplex.now) (g.D.Duplex.written c.args.duplex.now) (g.D.Duplex.written c.args.duplex.now) c.args.feed.now c.args.feed.now c.args.bytes.now)
     (sym c.without_frame.ensures)
-    (turns-without (g.K.Sink.faults c.args.sink.now) (g.K.Sink.is_finished c.args.sink.now) (g.K.Sink.written c.args.sink.now) c.args.feed.now c.args.bytes.now (λ i. omega (arith, c.type_inv.bytes i))
+    (turns-without (g.D.Duplex.write_faults c.args.duplex.now) (g.D.Duplex.is_finished c.args.duplex.now) (g.D.Duplex.written c.args.duplex.now) c.args.feed.now c.args.bytes.now (λ i. omega (arith, c.type_inv.bytes i))
     c.decode.result c.decode.ensures.told c.decode.ensures.more c.decode.ensures.bad c.decode.ensures.memory c.in-Err.fault c.in-Err.is)
 
 pub returns-in-Err-NoMemory-clause-turn : goal.returns-in-Err-NoMemory-clause-turn
@@ -40,9 +40,9 @@ returns-in-Err-NoMemory-clause-turn g c = record {
 
 pub returns-in-Err-clause-kept : goal.returns-in-Err-clause-kept
 returns-in-Err-clause-kept g c =
-    subst (KeepsFinished (g.K.Sink.is_finished c.args.sink.now) (g.K.Sink.is_finished c.args.sink.now)) (sym c.without_frame.ensures)
-    (keeps-without (g.K.Sink.is_finished c.args.sink.now) c.in-Err.fault)
+    subst (KeepsFinished (g.D.Duplex.is_finished c.args.duplex.now) (g.D.Duplex.is_finished c.args.duplex.now)) (sym c.without_frame.ensures)
+    (keeps-without (g.D.Duplex.is_finished c.args.duplex.now) c.in-Err.fault)
 
 pub returns-in-Err-NoMemory-clause-kept : goal.returns-in-Err-NoMemory-clause-kept
 returns-in-Err-NoMemory-clause-kept g c =
-    subst (λ sink. g.K.Sink.is_finished sink) (sym (c.answer.ensures.untouched (search rules)))
+    subst (λ duplex. g.D.Duplex.is_finished duplex) (sym (c.answer.ensures.untouched (search rules)))
