@@ -1,6 +1,7 @@
 //! A datapath over a stream of frames: messages in, answers out, and the loop that reads and writes them.
 #![tactic(auto)]
 
+mod ack_frame;
 mod answering;
 pub mod calls;
 mod duplex;
