@@ -1,5 +1,5 @@
 -- What decoding answers, and the laws of messages and frames.
-use Rattle.std.proofs.Common.{◌≡◌, ◌≢◌, ℕ, ◌-◌, List, [], ◌∷◌, ◌++◌, length, Result, Ok, Err, refl, sym, ap, subst, ◌∙◌, arith, length-append}
+use Rattle.std.proofs.Common.{◌≡◌, ◌≢◌, ℕ, ◌-◌, ◌<◌, List, [], ◌∷◌, ◌++◌, length, Result, Ok, Err, refl, sym, ap, subst, ◌∙◌, arith, length-append}
 use Rattle.std.specs.Prelude.{IfOk}
 use Rattle.std.proofs.lemmas.List.{append-nil}
 use Rattle.reply_frames.specs.declared.fault.BadKind.{BadKind}
@@ -10,6 +10,11 @@ use Rattle.reply_frames.specs.declared.outline.Version.TheVariants.{One, Two}
 use Rattle.reply_frames.specs.Parts.{Read}
 use Rattle.reply_frames.specs.Frames.{Frame, frame_at}
 use Rattle.reply_frames.specs.Decoding.{needed_of}
+use Rattle.reply_frames.specs.Decoding as replies
+use Rattle.reply_frames.specs.declared.decode.ReplyHead.{ReplyHead}
+use Rattle.reply_frames.specs.declared.fault.FrameFault.{FrameFault}
+use Rattle.reply_frames.specs.declared.fault.FrameFault.TheVariants as faults
+use Rattle.ccp_base.specs.FieldReg.{Pair}
 use Rattle.reply_frames.specs.Whole.{IsFrameFront, IsBadFrom, IsBadIn}
 use Rattle.reply_frames.specs.FrameBytes.{spelled, outline_of}
 use Rattle.reply_frames.proofs.Codec.{AllBytes}
@@ -23,7 +28,7 @@ use Rattle.ccp_messages.specs.declared.fault.DecodeFault.{DecodeFault}
 use Rattle.ccp_messages.specs.declared.fault.DecodeFault.TheVariants.{More, Bad, NoMemory}
 use Rattle.ccp_messages.specs.declared.message.Message.{Message}
 use Rattle.ccp_messages.specs.Messages.{Meets, message_flow, message_body, frame_bytes, message_of, IsTyped}
-use Rattle.ccp_messages.specs.Decoding.{Found, Begins, found_from, decoded_from, decoded_of, IsDecoded, IsBad}
+use Rattle.ccp_messages.specs.Decoding.{Found, Begins, found_from, decoded_from, decoded_of, IsDecoded, IsBad, IsFound, LacksCode, frame_lack}
 use Rattle.ccp_messages.specs.Laws.{IsReadAs, OneFrame, NoOther, BothVersions}
 use Rattle.ccp_messages.proofs.MessageLaws.{message-back, message-fits, meets-both, meets-one, IsSaid, body-said}
 
@@ -126,7 +131,7 @@ told_more bytes result told n e =
     let some : (result ≢ Err NoMemory) = λ none. let clash : ◌≡◌ {A = Result Found DecodeFault} (Err (More n)) (Err NoMemory) = sym e ∙ none in cc in
     decoded-more bytes n (sym (told some) ∙ e)
 
-pub told_cut : (bytes : List ℕ) (result : Result Found DecodeFault) → IsTold bytes result → IsFrameFront bytes → IsDecoded result (Err (More (needed_of bytes)))
+told_cut : (bytes : List ℕ) (result : Result Found DecodeFault) → IsTold bytes result → IsFrameFront bytes → IsDecoded result (Err (More (needed_of bytes)))
 told_cut bytes result told cut some = told some ∙ cut-more bytes cut
 
 pub told_bad : (bytes : List ℕ) (result : Result Found DecodeFault) → IsTold bytes result → (field : BadKind) (place : ℕ) → result ≡ Err (Bad field place) → IsBadIn bytes field place
@@ -134,12 +139,70 @@ told_bad bytes result told field place e =
     let some : (result ≢ Err NoMemory) = λ none. let clash : ◌≡◌ {A = Result Found DecodeFault} (Err (Bad field place)) (Err NoMemory) = sym e ∙ none in cc in
     decoded-bad bytes field place (sym (told some) ∙ e)
 
-pub told_refused : (bytes : List ℕ) (result : Result Found DecodeFault) → AllBytes bytes → IsTold bytes result → ((m : Message) (v : Version) (n : ℕ) → ¬ Begins bytes m v n) → ¬ IsFrameFront bytes → (result ≢ Err NoMemory) → IsBad result
-told_refused bytes (Ok f) fits told none whole some = none f.0 f.1 f.2 (decoded-begins bytes f fits (told-ok bytes f told))
-told_refused bytes (Err (More n)) fits told none whole some =
-    whole (decoded-more bytes n (told-err bytes (More n) (λ (e : More n ≡ NoMemory). cc) told)).0
-told_refused bytes (Err (Bad field place)) fits told none whole some = tt
-told_refused bytes (Err NoMemory) fits told none whole some = some refl
+-- ---- an Install without memory for its code
+
+-- a frame that isn't an Update or a Change is whole all the same
+whole-other : (bytes : List ℕ) (read : Read Frame) (number : ℕ) → replies.decoded_from bytes read ≡ Err (faults.Other number) → IsFound (decoded_from bytes (found_from (length bytes) read))
+whole-other bytes (Ok (frame, rest)) number e = ((message_of frame.outline.flow frame.body, frame.outline.version, length bytes - length rest), refl)
+whole-other bytes (Err stops.Cut) number e = absurd cc
+whole-other bytes (Err (stops.Bad field left)) number e = absurd cc
+
+whole-reply : (bytes : List ℕ) (read : Read Frame) (reply : ReplyHead × List Pair) → replies.decoded_from bytes read ≡ Ok reply → IsFound (decoded_from bytes (found_from (length bytes) read))
+whole-reply bytes (Ok (frame, rest)) reply e = ((message_of frame.outline.flow frame.body, frame.outline.version, length bytes - length rest), refl)
+whole-reply bytes (Err stop) reply e = absurd cc
+
+lacks-more : (bytes : List ℕ) (n : ℕ) → IsFrameFront bytes × (n ≡ needed_of bytes) → LacksCode (More n) (decoded_of bytes)
+lacks-more bytes n is = cut-more bytes is.0 ∙ ap (λ n. Err (More n)) (sym is.1)
+
+lacks-bad : (bytes : List ℕ) (field : BadKind) (place : ℕ) → IsBadIn bytes field place → LacksCode (Bad field place) (decoded_of bytes)
+lacks-bad bytes field place is =
+    let within : place < length bytes = is.0.within in
+    let at : length bytes - (length bytes - place) ≡ place = omega (arith, within) in
+    ap (λ read. decoded_from bytes (found_from (length bytes) read)) is.1 ∙ ap (λ n. Err (Bad field n)) at
+
+lacks-other : (bytes : List ℕ) (number : ℕ) → replies.decoded_of bytes ≡ Err (faults.Other number) → LacksCode NoMemory (decoded_of bytes)
+lacks-other bytes number e = whole-other bytes (frame_at bytes) number e
+
+pub lacks-reply : (bytes : List ℕ) (reply : ReplyHead × List Pair) → replies.decoded_of bytes ≡ Ok reply → LacksCode NoMemory (decoded_of bytes)
+lacks-reply bytes reply e = whole-reply bytes (frame_at bytes) reply e
+
+pub lacks-fault : (bytes : List ℕ) (fault : FrameFault) (result : Result ReplyHead FrameFault) → result ≡ Err fault
+    → ((n : ℕ) → result ≡ Err (faults.More n) → IsFrameFront bytes × (n ≡ needed_of bytes))
+    → ((field : BadKind) (place : ℕ) → result ≡ Err (faults.Bad field place) → IsBadIn bytes field place)
+    → replies.decoded_of bytes ≡ Err fault → LacksCode (frame_lack fault) (decoded_of bytes)
+lacks-fault bytes (faults.More n) result is more bad e = lacks-more bytes n (more n is)
+lacks-fault bytes (faults.Bad field place) result is more bad e = lacks-bad bytes field place (bad field place is)
+lacks-fault bytes (faults.Other number) result is more bad e = lacks-other bytes number e
+
+pub lacks-told : (fault : DecodeFault) (answer : Result Found DecodeFault) → LacksCode fault answer → IsDecoded (Err fault) answer
+lacks-told (More needed) answer lacks some = sym lacks
+lacks-told (Bad field place) answer lacks some = sym lacks
+lacks-told NoMemory answer lacks some = absurd (some refl)
+
+pub lacks-found : (fault : DecodeFault) (answer : Result Found DecodeFault) → LacksCode fault answer → ◌≡◌ {A = Result Found DecodeFault} (Err fault) (Err NoMemory) → IsFound answer
+lacks-found (More needed) answer lacks none = absurd cc
+lacks-found (Bad field place) answer lacks none = absurd cc
+lacks-found NoMemory answer lacks none = lacks
+
+-- a want of memory comes only for a whole frame
+pub told_whole : (bytes : List ℕ) → AllBytes bytes → IsFound (decoded_of bytes) → (m : Message) × (v : Version) × (n : ℕ) × Begins bytes m v n
+told_whole bytes fits found = (found.0.0, found.0.1, found.0.2, decoded-begins bytes found.0 fits found.1)
+
+pub cut_always : (bytes : List ℕ) (result : Result Found DecodeFault) → IsTold bytes result → (result ≡ Err NoMemory → IsFound (decoded_of bytes)) → IsFrameFront bytes → result ≡ Err (More (needed_of bytes))
+cut_always bytes (Ok f) told whole cut = told_cut bytes (Ok f) told cut (λ (e : ◌≡◌ {A = Result Found DecodeFault} (Ok f) (Err NoMemory)). cc)
+cut_always bytes (Err (More n)) told whole cut = told_cut bytes (Err (More n)) told cut (λ (e : ◌≡◌ {A = Result Found DecodeFault} (Err (More n)) (Err NoMemory)). cc)
+cut_always bytes (Err (Bad field place)) told whole cut = told_cut bytes (Err (Bad field place)) told cut (λ (e : ◌≡◌ {A = Result Found DecodeFault} (Err (Bad field place)) (Err NoMemory)). cc)
+cut_always bytes (Err NoMemory) told whole cut =
+    let found = whole refl in
+    let clash : ◌≡◌ {A = Result Found DecodeFault} (Ok found.0) (Err (More (needed_of bytes))) = sym found.1 ∙ cut-more bytes cut in
+    absurd cc
+
+pub refused_always : (bytes : List ℕ) (result : Result Found DecodeFault) → AllBytes bytes → IsTold bytes result → (result ≡ Err NoMemory → IsFound (decoded_of bytes)) → ((m : Message) (v : Version) (n : ℕ) → ¬ Begins bytes m v n) → ¬ IsFrameFront bytes → IsBad result
+refused_always bytes (Ok f) fits told whole none front = none f.0 f.1 f.2 (decoded-begins bytes f fits (told-ok bytes f told))
+refused_always bytes (Err (More n)) fits told whole none front =
+    front (decoded-more bytes n (told-err bytes (More n) (λ (e : More n ≡ NoMemory). cc) told)).0
+refused_always bytes (Err (Bad field place)) fits told whole none front = tt
+refused_always bytes (Err NoMemory) fits told whole none front = let found = whole refl in none found.0.0 found.0.1 found.0.2 (decoded-begins bytes found.0 fits found.1)
 
 -- ---- the laws
 

@@ -3,6 +3,8 @@ use Rattle.std.specs.Prelude.{◌≡◌, ◌≢◌, ℕ, ◌-◌, List, ◌++◌
 use Rattle.std.specs.Int.{w32}
 use Rattle.reply_frames.specs.declared.fault.Stop.{Stop}
 use Rattle.reply_frames.specs.declared.fault.Stop.TheVariants as stops
+use Rattle.reply_frames.specs.declared.fault.FrameFault.{FrameFault}
+use Rattle.reply_frames.specs.declared.fault.FrameFault.TheVariants as faults
 use Rattle.reply_frames.specs.declared.outline.Version.{Version}
 use Rattle.reply_frames.specs.declared.outline.Counts.{Counts}
 use Rattle.reply_frames.specs.declared.outline.FrameKind.TheVariants as kinds
@@ -99,6 +101,23 @@ decoded_of bytes = decoded_from bytes (found_from (length bytes) (frame_at bytes
 -- it is this one
 abbrev pub IsDecoded : Result Found DecodeFault → Result Found DecodeFault → Type 0
 IsDecoded result answer = (result ≢ Err NoMemory) → result ≡ answer
+
+-- a message was read
+abbrev pub IsFound : Result Found DecodeFault → Type 0
+IsFound answer = (found : Found) × (answer ≡ Ok found)
+
+-- the answer if there is no memory for a code: what is wrong with the frame, or, if it is whole, that there is none
+abbrev pub LacksCode : DecodeFault → Result Found DecodeFault → Type 0
+LacksCode (More needed) answer = answer ≡ Err (More needed)
+LacksCode (Bad field place) answer = answer ≡ Err (Bad field place)
+LacksCode NoMemory answer = IsFound answer
+
+-- what is wrong with a frame of which only the values of an Update or a Change are read: nothing, if it is of another
+-- kind
+abbrev pub frame_lack : FrameFault → DecodeFault
+frame_lack (faults.More needed) = More needed
+frame_lack (faults.Bad field place) = Bad field place
+frame_lack (faults.Other number) = NoMemory
 
 -- it refuses a byte
 abbrev pub IsBad : Result Found DecodeFault → Type 0

@@ -84,7 +84,7 @@ module _ (source source' sink sink' : Known) (is_finished : Type 0) (state : Fee
     answers-here = ap (λ (f : Fed). f.answers) left-here ∙ append-nil feeding.answers
 
     -- the answers are handed on still, with a sink that was touched later
-    all-answered : (now_finished : Type 0) → AreHandedOn feeding.answers now_finished → AnswersInput (stream source source' rb rn) (stream sink sink' wb wn) now_finished bytes
+    pub all-answered : (now_finished : Type 0) → AreHandedOn feeding.answers now_finished → AnswersInput (stream source source' rb rn) (stream sink sink' wb wn) now_finished bytes
     all-answered now_finished handed = record {
       taken = feeding.taken;
       written = subst (Appends sink sink') (sym answers-here) feeding.written;

@@ -45,10 +45,10 @@ module _ (flows : List (Option Flow)) (programs : List (Option Code)) (messages 
   ack-absent ack y r none e answer =
       refuses NoFlow 0 y r e answer ∙ sym (ap (λ f. flow_acked f old version n ack) (is_there flows n x lt is ∙ none))
 
-  pub ack-counted : (ack : Ack) (flow flow' : Flow) → x ≡ Some flow → running_code flow.epoch programs ≡ None → flow' ≡ counted_flow ack flow
-      → ◌≡◌ {A = MessageAnswer} (None, put (Some flow')) (answer_to_ack old version n ack)
-  ack-counted ack flow flow' some none e =
-      ap (λ f. (None, put (Some f))) e
+  pub ack-counted : (ack : Ack) (flow flow' : Flow) (r : Answer) → x ≡ Some flow → running_code flow.epoch programs ≡ None → flow' ≡ counted_flow ack flow → r ≡ None
+      → ◌≡◌ {A = MessageAnswer} (r, put (Some flow')) (answer_to_ack old version n ack)
+  ack-counted ack flow flow' r some none e answer =
+      (λ i. (answer i, put (Some (e i))))
       ∙ sym (ap (λ f. flow_acked f old version n ack) (is_there flows n x lt is ∙ some) ∙ ap (λ c. acked_on c old n ack flow) none)
 
   pub ack-heard : (ack : Ack) (flow flow' : Flow) (epoch : Epoch) (code : Code) (r : Answer) → x ≡ Some flow → running_code flow.epoch programs ≡ Some (epoch, code)

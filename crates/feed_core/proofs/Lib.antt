@@ -1,4 +1,5 @@
 -- The lemmas of feed_core, a file a topic.
+mod AckFrames
 pub mod FeedBegins
 mod FeedEats
 mod FeedEnding

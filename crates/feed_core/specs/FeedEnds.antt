@@ -47,6 +47,15 @@ pub record AnswersInput (source sink : Stream) (is_finished : Type 0) (bytes : L
   pub written : Appends sink.old sink.new (answers_written bytes)
   pub handed : AreHandedOn (answers_written bytes) is_finished
 
+-- a read is allowed in every state that comes from this one in which exactly the answers to what was taken since were
+-- written and handed on
+abbrev pub AllowsAnswered : {D : Type 0} (remaining written : D → Known) (is_finished : D → Type 0)
+    (Follows : D → D → Type 0) (MayRead : D → Type 0) → D → Type 0
+AllowsAnswered {D = D} remaining written is_finished Follows MayRead begin = (now : D) (taken : List ℕ)
+    → Follows begin now → Takes (remaining begin) (remaining now) taken
+    → Appends (written begin) (written now) (answers_written taken)
+    → AreHandedOn (answers_written taken) (is_finished now) → MayRead now
+
 -- the source was read to its end, and the input ends so
 pub record EndsThere (source sink : Stream) (is_finished : Type 0) (end : FeedEnd) : Type 0 where
   pub bytes : List ℕ

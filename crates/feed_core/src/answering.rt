@@ -4,14 +4,16 @@ ghost use Rattle.std.specs.Prelude.{◌≡◌, ◌+◌, ◌<◌, ◌≤◌, leng
 ghost use Rattle.ccp_base.specs.Outside.{Rose, Appends, AppendsPrefix};
 ghost use Rattle.ccp_base.specs.Limits.{most_messages};
 ghost use Rattle.feed_core.specs.Feed.{answer_message, TakesMemory};
-ghost use Rattle.feed_core.specs.FeedHolds.{longest_answer};
+ghost use Rattle.feed_core.specs.FeedHolds.{longest_answer, HasShortFrame};
 ghost use Rattle.ccp_messages.specs.Messages.{Meets, frame_bytes};
-ghost use Rattle.feed_core.specs.FeedBytes.{answer_to};
+ghost use Rattle.feed_core.specs.FeedBytes.{answer_bytes, answer_to};
 ghost use Rattle.feed_core.specs.FeedEnds.{AreHandedOn};
 ghost use Rattle.feed_core.specs.FeedStops.{StopsAnswer};
 
+use crate::ack_frame::AckFrame;
+use crate::duplex::{Duplex, hand_over};
 use crate::feed::Feed;
-use ccp_base::{NoMemory, Sink, write_all};
+use ccp_base::NoMemory;
 use ccp_messages::{Message, encode_into};
 use reply_frames::Version;
 use std::alloc::Global;
@@ -39,47 +41,109 @@ impl From<NoMemory> for Unanswered {
 }
 
 /// Answers a message, and writes the answer and hands it on. Only a Create of a flow that doesn't exist takes memory.
-pub fn answer<K: Sink>(
+pub fn answer<D: Duplex>(
     alloc: Global,
     feed: &mut Feed,
     message: Message,
     version: Version,
-    sink: &mut K,
+    duplex: &mut D,
 ) -> Result<(), Unanswered>
     requires few { feed.old.messages < most_messages }
     ensures state { OnOk result (feed.new ≡ (answer_message feed.old message version).1) }
     ensures one { OnOk result (feed.new.messages ≡ feed.old.messages + 1) }
     ensures written { OnOk result
-        (Appends (K.written sink.old) (K.written sink.new) (answer_to feed.old message version)) }
-    ensures handed { OnOk result (AreHandedOn (answer_to feed.old message version) (K.is_finished sink.new)) }
-    ensures kept { OnOk result (K.is_finished sink.old → K.is_finished sink.new) }
-    ensures counted { K.faults sink.old ≤ K.faults sink.new }
-    ensures err { IfErr result (StopsAnswer (K.faults sink.old) (K.faults sink.new)
-        (K.written sink.old) (K.written sink.new) (answer_to feed.old message version)) }
+        (Appends (D.written duplex.old) (D.written duplex.new) (answer_to feed.old message version)) }
+    ensures handed { OnOk result (AreHandedOn (answer_to feed.old message version) (D.is_finished duplex.new)) }
+    ensures kept { OnOk result (D.is_finished duplex.old → D.is_finished duplex.new) }
+    ensures follows { D.Follows duplex.old duplex.new }
+    ensures remaining { D.remaining duplex.new ≡ D.remaining duplex.old }
+    ensures read_faults { D.read_faults duplex.new ≡ D.read_faults duplex.old }
+    ensures counted { D.write_faults duplex.old ≤ D.write_faults duplex.new }
+    ensures err { IfErr result (StopsAnswer (D.write_faults duplex.old) (D.write_faults duplex.new)
+        (D.written duplex.old) (D.written duplex.new) (answer_to feed.old message version)) }
     ensures memory { result ≡ Err Unanswered.NoMemory → TakesMemory feed.old message }
-    ensures untouched { result ≡ Err Unanswered.NoMemory → sink.new ≡ sink.old }
+    ensures untouched { result ≡ Err Unanswered.NoMemory → duplex.new ≡ duplex.old }
 {
     match feed.frame(alloc, message, version)? {
         None => Ok(()),
-        Some((message, version)) => write(sink, &message, version),
+        Some((message, version)) => write(duplex, &message, version),
+    }
+}
+
+/// Answers an acknowledgement, and writes the answer, if there is one, and hands it on.
+pub fn answer_ack<D: Duplex>(
+    feed: &mut Feed,
+    frame: &AckFrame,
+    duplex: &mut D,
+) -> Result<(), Unanswered>
+    requires few { feed.old.messages < most_messages }
+    ensures state { OnOk result
+        (feed.new ≡ (answer_message feed.old (Message.Ack frame.now.flow frame.now.ack) frame.now.version).1) }
+    ensures one { OnOk result (feed.new.messages ≡ feed.old.messages + 1) }
+    ensures written { OnOk result (Appends (D.written duplex.old) (D.written duplex.new)
+        (answer_to feed.old (Message.Ack frame.now.flow frame.now.ack) frame.now.version)) }
+    ensures handed { OnOk result
+        (AreHandedOn (answer_to feed.old (Message.Ack frame.now.flow frame.now.ack) frame.now.version)
+        (D.is_finished duplex.new)) }
+    ensures kept { OnOk result (D.is_finished duplex.old → D.is_finished duplex.new) }
+    ensures follows { D.Follows duplex.old duplex.new }
+    ensures remaining { D.remaining duplex.new ≡ D.remaining duplex.old }
+    ensures read_faults { D.read_faults duplex.new ≡ D.read_faults duplex.old }
+    ensures counted { D.write_faults duplex.old ≤ D.write_faults duplex.new }
+    ensures err { IfErr result (StopsAnswer (D.write_faults duplex.old) (D.write_faults duplex.new)
+        (D.written duplex.old) (D.written duplex.new)
+        (answer_to feed.old (Message.Ack frame.now.flow frame.now.ack) frame.now.version)) }
+    ensures failed { IfErr result (λ why. why ≡ Unanswered.Write) }
+{
+    let mut answer = None;
+    feed.acknowledge(frame.version, frame.flow, &frame.ack, &mut answer);
+    let done = write_answer(duplex, &answer);
+    drop(answer);
+    done
+}
+
+/// Writes the frame of an answer, if there is one, and hands it on.
+fn write_answer<D: Duplex>(
+    duplex: &mut D,
+    answer: &Option<(Message, Version)>,
+) -> Result<(), Unanswered>
+    requires { HasShortFrame answer.now }
+    ensures written { OnOk result (Appends (D.written duplex.old) (D.written duplex.new) (answer_bytes answer.now)) }
+    ensures handed { OnOk result (AreHandedOn (answer_bytes answer.now) (D.is_finished duplex.new)) }
+    ensures kept { OnOk result (D.is_finished duplex.old → D.is_finished duplex.new) }
+    ensures follows { D.Follows duplex.old duplex.new }
+    ensures remaining { D.remaining duplex.new ≡ D.remaining duplex.old }
+    ensures read_faults { D.read_faults duplex.new ≡ D.read_faults duplex.old }
+    ensures counted { D.write_faults duplex.old ≤ D.write_faults duplex.new }
+    ensures err { IfErr result (StopsAnswer (D.write_faults duplex.old) (D.write_faults duplex.new)
+        (D.written duplex.old) (D.written duplex.new) (answer_bytes answer.now)) }
+    ensures failed { IfErr result (λ why. why ≡ Unanswered.Write) }
+{
+    match answer {
+        None => Ok(()),
+        Some((message, version)) => write(duplex, message, *version),
     }
 }
 
 /// Writes the frame of a message, and hands it on.
-fn write<K: Sink>(sink: &mut K, message: &Message, version: Version) -> Result<(), Unanswered>
+#[inline(never)]
+fn write<D: Duplex>(duplex: &mut D, message: &Message, version: Version) -> Result<(), Unanswered>
     requires meets { Meets version message.now }
     requires fits { length (frame_bytes version message.now) ≤ longest_answer }
     ensures written { OnOk result
-        (Appends (K.written sink.old) (K.written sink.new) (frame_bytes version message.now)) }
-    ensures finished { OnOk result (K.is_finished sink.new) }
-    ensures counted { K.faults sink.old ≤ K.faults sink.new }
-    ensures err { IfErr result (StopsAnswer (K.faults sink.old) (K.faults sink.new)
-        (K.written sink.old) (K.written sink.new) (frame_bytes version message.now)) }
+        (Appends (D.written duplex.old) (D.written duplex.new) (frame_bytes version message.now)) }
+    ensures finished { OnOk result (D.is_finished duplex.new) }
+    ensures follows { D.Follows duplex.old duplex.new }
+    ensures remaining { D.remaining duplex.new ≡ D.remaining duplex.old }
+    ensures read_faults { D.read_faults duplex.new ≡ D.read_faults duplex.old }
+    ensures counted { D.write_faults duplex.old ≤ D.write_faults duplex.new }
+    ensures err { IfErr result (StopsAnswer (D.write_faults duplex.old) (D.write_faults duplex.new)
+        (D.written duplex.old) (D.written duplex.new) (frame_bytes version message.now)) }
     ensures failed { IfErr result (λ why. why ≡ Unanswered.Write) }
 {
     let mut out = [0u8; LONGEST];
     match encode_into(message, version, &mut out) {
-        Ok(size) => match write_all(sink, &out[..size]) {
+        Ok(size) => match hand_over(duplex, &out[..size]) {
             Ok(()) => Ok(()),
             Err(_) => Err(Unanswered::Write),
         },

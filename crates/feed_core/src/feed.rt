@@ -1,12 +1,12 @@
 //! A datapath over a stream of frames: what it keeps, and its answer to the next message.
 
-ghost use Rattle.std.specs.Prelude.{◌≡◌, ◌+◌, ◌<◌, IfOk, OnOk, OnErr};
+ghost use Rattle.std.specs.Prelude.{◌≡◌, ◌+◌, ◌<◌, None, IfOk, OnOk, OnErr};
 ghost use Rattle.ccp_base.specs.Limits.{most_messages};
 ghost use Rattle.feed_core.specs.Feed.{no_flows, answer_message, TakesMemory};
 ghost use Rattle.feed_core.specs.FeedHolds.{HasShortFrame};
 
 use crate::tables::Tables;
-use ccp_base::NoMemory;
+use ccp_base::{Ack, NoMemory};
 use ccp_messages::Message;
 use reply_frames::Version;
 use std::alloc::Global;
@@ -67,5 +67,23 @@ impl Feed {
         ensures frame { IfOk result HasShortFrame }
     {
         self.tables.frame(alloc, message, version)
+    }
+
+    /// Puts the answer to the next message, an acknowledgement, into `answer`, if it has one.
+    pub(crate) fn acknowledge(
+        &mut self,
+        version: Version,
+        flow: u32,
+        ack: &Ack,
+        answer: &mut Option<(Message, Version)>,
+    )
+        requires few { self.old.messages < most_messages }
+        requires none { answer.old ≡ None }
+        ensures answered { (answer.new, self.new)
+            ≡ answer_message self.old (Message.Ack flow ack.entry.now) version }
+        ensures counted { self.new.messages ≡ self.old.messages + 1 }
+        ensures frame { HasShortFrame answer.new }
+    {
+        self.tables.acknowledge(version, flow, ack, answer);
     }
 }

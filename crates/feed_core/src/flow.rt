@@ -5,6 +5,7 @@ ghost use Rattle.fold_machine.specs.MachineState.{Fits};
 ghost use Rattle.fold_machine.specs.Heard.{after_acknowledgement};
 ghost use Rattle.ccp_base.specs.FieldReg.{first_bad_pair};
 ghost use Rattle.feed_core.specs.Feed.{fresh_flow, next_epoch_number, changed_flow, updated_flow};
+ghost use Rattle.feed_core.specs.Feed.{in_version};
 ghost use Rattle.feed_core.specs.Feed.{counted_flow, flow_after, message_about};
 
 use ccp_base::{Ack, Fields, NoMemory, Notice, Report};
@@ -96,25 +97,76 @@ impl Flow {
         self.last = ack.now;
     }
 
-    /// Runs the started program on an acknowledgement, with room for a report. Returns the message about it, if any.
-    pub fn ack(&mut self, number: u32, epoch: Epoch, code: &Checked, ack: &Ack) -> Option<Message>
+    /// Runs the started program on an acknowledgement, with room for a report, and puts the message about it, if there
+    /// is one, into `answer`, with this version.
+    pub fn ack(
+        &mut self,
+        number: u32,
+        epoch: Epoch,
+        code: &Checked,
+        ack: &Ack,
+        version: Version,
+        answer: &mut Option<(Message, Version)>,
+    )
         requires count { self.old.count + 1 < 2 ^ 64 }
         requires fits { Fits self.old.machine code.now.code }
+        requires none { answer.old ≡ None }
         ensures after { self.new
             ≡ flow_after (after_acknowledgement code.now.code ack.entry.now true self.old.machine)
             ack.entry.now self.old }
-        ensures message { result
-            ≡ message_about (after_acknowledgement code.now.code ack.entry.now true self.old.machine)
-            ack.entry.now number epoch self.old }
+        ensures message { answer.new ≡ in_version version
+            (message_about (after_acknowledgement code.now.code ack.entry.now true self.old.machine)
+            ack.entry.now number epoch self.old) }
         ensures fits { Fits self.new.machine code.now.code }
     {
         let acked = run::<Brand>(&mut self.machine, code, ack, Blank::new(1));
-        let message = self.message_about(number, epoch, ack, acked);
+        self.tell(number, epoch, ack, acked, version, answer);
         self.pass(ack);
         if acked == Acked::Reported {
             self.first = self.count;
         }
-        message
+    }
+
+    /// Puts the message about an acknowledgement that was run and isn't counted yet, if there is one, into `answer`.
+    fn tell(
+        &self,
+        number: u32,
+        epoch: Epoch,
+        ack: &Ack,
+        acked: Acked,
+        version: Version,
+        answer: &mut Option<(Message, Version)>,
+    )
+        requires count { self.now.count + 1 < 2 ^ 64 }
+        requires none { answer.old ≡ None }
+        ensures { answer.new
+            ≡ in_version version (message_about (Some acked, self.now.machine) ack.entry.now number epoch self.now) }
+    {
+        match acked {
+            Acked::Reported | Acked::Faulted(_, _) => {
+                self.put_message(number, epoch, ack, acked, version, answer)
+            }
+            Acked::Quiet | Acked::Held | Acked::Stopped => {}
+        }
+    }
+
+    // Most acknowledgements have no message. A function of its own keeps a message's kilobyte out of their way.
+    /// Puts the message about an acknowledgement, if there is one, into `answer`, with this version.
+    #[inline(never)]
+    fn put_message(
+        &self,
+        number: u32,
+        epoch: Epoch,
+        ack: &Ack,
+        acked: Acked,
+        version: Version,
+        answer: &mut Option<(Message, Version)>,
+    )
+        requires { self.now.count + 1 < 2 ^ 64 }
+        ensures { answer.new
+            ≡ in_version version (message_about (Some acked, self.now.machine) ack.entry.now number epoch self.now) }
+    {
+        *answer = in_version(version, self.message_about(number, epoch, ack, acked));
     }
 
     /// The message about an acknowledgement that was run and isn't counted yet.
@@ -146,6 +198,16 @@ impl Flow {
             })),
             Acked::Quiet | Acked::Held | Acked::Stopped => None,
         }
+    }
+}
+
+/// The message as an answer in a version, if there is one.
+fn in_version(version: Version, answer: Option<Message>) -> Option<(Message, Version)>
+    ensures { result ≡ in_version version answer }
+{
+    match answer {
+        None => None,
+        Some(message) => Some((message, version)),
     }
 }
 

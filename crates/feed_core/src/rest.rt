@@ -4,8 +4,8 @@ ghost use Rattle.std.specs.Prelude.{◌≡◌, ◌+◌, ◌-◌, ◌<◌, ◌≤
 ghost use Rattle.ccp_base.specs.Limits.{most_frame_bytes};
 ghost use Rattle.feed_core.specs.Rests.{between, IsPiece};
 
+use crate::duplex::Duplex;
 use crate::piece::Piece;
-use ccp_base::Source;
 
 /// The bytes of the longest frame.
 const LONGEST: usize = 8596;
@@ -68,17 +68,22 @@ impl Rest {
     }
 
     /// Reads a piece of at most `room` bytes and appends it. If `room` is 0 it asks for one byte, and keeps none.
-    pub fn read<S: Source>(&mut self, source: &mut S, room: usize) -> Piece
-        requires { length (between self.old.bytes self.old.start self.old.end) < most_frame_bytes }
-        ensures counted { S.faults source.old ≤ S.faults source.new }
-        ensures came { IsPiece (S.faults source.old) (S.faults source.new) (S.remaining source.old)
-            (S.remaining source.new) room (between self.old.bytes self.old.start self.old.end)
+    pub fn read<D: Duplex>(&mut self, duplex: &mut D, room: usize) -> Piece
+        requires few { length (between self.old.bytes self.old.start self.old.end) < most_frame_bytes }
+        requires allowed { D.MayRead duplex.old }
+        ensures follows { D.Follows duplex.old duplex.new }
+        ensures written { D.written duplex.new ≡ D.written duplex.old }
+        ensures write_faults { D.write_faults duplex.new ≡ D.write_faults duplex.old }
+        ensures finished { D.is_finished duplex.old → D.is_finished duplex.new }
+        ensures counted { D.read_faults duplex.old ≤ D.read_faults duplex.new }
+        ensures came { IsPiece (D.read_faults duplex.old) (D.read_faults duplex.new) (D.remaining duplex.old)
+            (D.remaining duplex.new) room (between self.old.bytes self.old.start self.old.end)
             (between self.new.bytes self.new.start self.new.end) result }
     {
         self.settle();
         let asked = room.max(1).min(LONGEST - self.end);
         let to = self.end + asked;
-        match source.read(&mut self.bytes[self.end..to]) {
+        match duplex.read(&mut self.bytes[self.end..to]) {
             Err(_) => Piece::Failed,
             Ok(0) => Piece::End,
             Ok(_) if room == 0 => Piece::Further,

@@ -5,7 +5,7 @@ ghost use Rattle.std.specs.Prelude.{OnErr, IsTrue, ◌↔◌, true, option_map, 
 ghost use Rattle.ccp_base.specs.Limits.{most_flows, most_messages};
 ghost use Rattle.reg_code.specs.declared.checked.Checked.{Checked};
 ghost use Rattle.feed_core.specs.Feed.{no_flows, there, refused, created, installed, is_too_wide, changed};
-ghost use Rattle.feed_core.specs.Feed.{running_code, updated, in_version, answer_to_ack, handled};
+ghost use Rattle.feed_core.specs.Feed.{running_code, updated, answer_to_ack, handled};
 ghost use Rattle.feed_core.specs.Feed.{answer_message, TakesMemory};
 ghost use Rattle.feed_core.specs.FeedHolds.{feed_state, codes_in, AreFeedParts, IsFeed, HasShortFrame};
 
@@ -75,16 +75,6 @@ fn is_too_wide(version: Version, code: &Checked) -> bool
     }
 }
 
-/// The message as an answer in a version, if there is one.
-fn in_version(version: Version, answer: Option<Message>) -> Option<(Message, Version)>
-    ensures { result ≡ in_version version answer }
-{
-    match answer {
-        None => None,
-        Some(message) => Some((message, version)),
-    }
-}
-
 /// The answer that refuses a frame, in the frame's version.
 fn refusal(version: Version, flow: u32, reason: Reason, index: u32) -> Option<(Message, Version)>
     ensures { result ≡ Some (Message.Refused flow reason index, version) }
@@ -97,6 +87,20 @@ fn refusal(version: Version, flow: u32, reason: Reason, index: u32) -> Option<(M
         },
         version,
     ))
+}
+
+/// Puts the answer that refuses a frame, in the frame's version, into `answer`.
+#[inline(never)]
+fn put_refusal(
+    version: Version,
+    flow: u32,
+    reason: Reason,
+    index: u32,
+    answer: &mut Option<(Message, Version)>,
+)
+    ensures { answer.new ≡ Some (Message.Refused flow reason index, version) }
+{
+    *answer = refusal(version, flow, reason, index);
 }
 
 impl Tables {
@@ -163,7 +167,11 @@ impl Tables {
                 values,
             } => Ok(self.change(version, flow, program, &values)),
             Message::Update { flow, values } => Ok(self.update(version, flow, &values)),
-            Message::Ack { flow, ack } => Ok(self.ack(version, flow, &ack)),
+            Message::Ack { flow, ack } => {
+                let mut answer = None;
+                self.ack(version, flow, &ack, &mut answer);
+                Ok(answer)
+            }
             Message::Measure(_) | Message::Fault(_) | Message::Refused { .. } => Ok(None),
         }
     }
@@ -279,24 +287,50 @@ impl Tables {
         }
     }
 
-    /// Runs an acknowledgement of a flow.
-    fn ack(&mut self, version: Version, n: u32, ack: &Ack) -> Option<(Message, Version)>
+    /// Runs an acknowledgement of a flow, and puts the answer, if there is one, into `answer`.
+    fn ack(&mut self, version: Version, n: u32, ack: &Ack, answer: &mut Option<(Message, Version)>)
         requires few { self.old.messages < most_messages }
         requires is_feed { IsFeed (feed_state self.old) }
-        ensures handled { (result, feed_state self.new) ≡ answer_to_ack (feed_state self.old) version n ack.entry.now }
+        requires none { answer.old ≡ None }
+        ensures handled { (answer.new, feed_state self.new)
+            ≡ answer_to_ack (feed_state self.old) version n ack.entry.now }
         ensures messages { self.new.messages ≡ self.old.messages }
     {
         let at = n as usize;
         if at >= FLOWS {
-            return refusal(version, n, Reason::NoFlow, 0);
+            put_refusal(version, n, Reason::NoFlow, 0, answer);
+            return;
         }
         let Some(flow) = &mut self.flows[at] else {
-            return refusal(version, n, Reason::NoFlow, 0);
+            put_refusal(version, n, Reason::NoFlow, 0, answer);
+            return;
         };
         let Some((epoch, code)) = code_of(flow.epoch, self.programs.as_slice()) else {
             flow.pass(ack);
-            return None;
+            return;
         };
-        in_version(flow.version, flow.ack(n, epoch, code, ack))
+        let own = flow.version;
+        flow.ack(n, epoch, code, ack, own, answer);
+    }
+
+    /// Puts the answer to the next message, an acknowledgement, into `answer`, if it has one; the message is counted.
+    pub fn acknowledge(
+        &mut self,
+        version: Version,
+        n: u32,
+        ack: &Ack,
+        answer: &mut Option<(Message, Version)>,
+    )
+        requires few { self.old.messages < most_messages }
+        requires is_feed { IsFeed (feed_state self.old) }
+        requires none { answer.old ≡ None }
+        ensures answered { (answer.new, feed_state self.new)
+            ≡ answer_message (feed_state self.old) (Message.Ack n ack.entry.now) version }
+        ensures counted { self.new.messages ≡ self.old.messages + 1 }
+        ensures is_feed { IsFeed (feed_state self.new) }
+        ensures frame { HasShortFrame answer.new }
+    {
+        self.ack(version, n, ack, answer);
+        self.messages += 1;
     }
 }

@@ -4,9 +4,10 @@ ghost use Rattle.std.specs.Prelude.{◌≡◌, ◌+◌, ◌≤◌, length};
 ghost use Rattle.ccp_base.specs.Limits.{most_messages};
 ghost use Rattle.feed_core.specs.FeedTurns.{without_frame, IsTurn, KeepsFinished};
 
-use crate::answering::{Unanswered, answer};
+use crate::ack_frame::ack_frame;
+use crate::answering::{Unanswered, answer, answer_ack};
+use crate::duplex::Duplex;
 use crate::feed::Feed;
-use ccp_base::Sink;
 use ccp_messages::{BadKind, DecodeFault, decode};
 use std::alloc::Global;
 
@@ -36,15 +37,39 @@ fn without_frame(fault: DecodeFault) -> Turn
 }
 
 /// Answers the frame that the bytes begin with.
-pub fn next_frame<K: Sink>(alloc: Global, feed: &mut Feed, bytes: &[u8], sink: &mut K) -> Turn
+pub fn next_frame<D: Duplex>(alloc: Global, feed: &mut Feed, bytes: &[u8], duplex: &mut D) -> Turn
     requires few { feed.old.messages + length bytes.now ≤ most_messages }
-    ensures counted { K.faults sink.old ≤ K.faults sink.new }
-    ensures turn { IsTurn (K.faults sink.old) (K.faults sink.new) (K.is_finished sink.new)
-        (K.written sink.old) (K.written sink.new) feed.old feed.new bytes.now result }
-    ensures kept { KeepsFinished (K.is_finished sink.old) (K.is_finished sink.new) result }
+    ensures follows { D.Follows duplex.old duplex.new }
+    ensures remaining { D.remaining duplex.new ≡ D.remaining duplex.old }
+    ensures read_faults { D.read_faults duplex.new ≡ D.read_faults duplex.old }
+    ensures counted { D.write_faults duplex.old ≤ D.write_faults duplex.new }
+    ensures turn { IsTurn (D.write_faults duplex.old) (D.write_faults duplex.new) (D.is_finished duplex.new)
+        (D.written duplex.old) (D.written duplex.new) feed.old feed.new bytes.now result }
+    ensures kept { KeepsFinished (D.is_finished duplex.old) (D.is_finished duplex.new) result }
+{
+    match ack_frame(bytes) {
+        Some(frame) => match answer_ack(feed, &frame, duplex) {
+            Ok(()) => Turn::Answered(frame.used),
+            Err(_) => Turn::WriteFailed,
+        },
+        None => other_frame(alloc, feed, bytes, duplex),
+    }
+}
+
+/// Answers the frame of any kind that the bytes begin with.
+#[inline(never)]
+fn other_frame<D: Duplex>(alloc: Global, feed: &mut Feed, bytes: &[u8], duplex: &mut D) -> Turn
+    requires few { feed.old.messages + length bytes.now ≤ most_messages }
+    ensures follows { D.Follows duplex.old duplex.new }
+    ensures remaining { D.remaining duplex.new ≡ D.remaining duplex.old }
+    ensures read_faults { D.read_faults duplex.new ≡ D.read_faults duplex.old }
+    ensures counted { D.write_faults duplex.old ≤ D.write_faults duplex.new }
+    ensures turn { IsTurn (D.write_faults duplex.old) (D.write_faults duplex.new) (D.is_finished duplex.new)
+        (D.written duplex.old) (D.written duplex.new) feed.old feed.new bytes.now result }
+    ensures kept { KeepsFinished (D.is_finished duplex.old) (D.is_finished duplex.new) result }
 {
     match decode(alloc, bytes) {
-        Ok((message, version, used)) => match answer(alloc, feed, message, version, sink) {
+        Ok((message, version, used)) => match answer(alloc, feed, message, version, duplex) {
             Ok(()) => Turn::Answered(used),
             Err(Unanswered::Write) => Turn::WriteFailed,
             Err(Unanswered::NoMemory) => Turn::NoMemory,

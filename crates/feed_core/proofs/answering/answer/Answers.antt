@@ -11,13 +11,13 @@ pub returns-in-Some-clause-written : goal.returns-in-Some-clause-written
 returns-in-Some-clause-written g c =
     let same : answer_bytes (answer_message c.args.feed.now c.args.message c.args.version).0 ≡ frame_bytes c.in-Some.version c.in-Some.message =
     sym (ap (λ (a : MessageAnswer). answer_bytes a.0) c.in_ok-frame.ensures.answered) ∙ ap answer_bytes c.in-Some.is in
-    subst (λ (bytes : List ℕ). OnOk c.write.result (Appends (g.K.Sink.written c.args.sink.now) (g.K.Sink.written c.write.new.sink) bytes)) (sym same) c.write.ensures.written
+    subst (λ (bytes : List ℕ). OnOk c.write.result (Appends (g.D.Duplex.written c.args.duplex.now) (g.D.Duplex.written c.write.new.duplex) bytes)) (sym same) c.write.ensures.written
 
 pub returns-in-Some-clause-err : goal.returns-in-Some-clause-err
 returns-in-Some-clause-err g c =
     let same : answer_bytes (answer_message c.args.feed.now c.args.message c.args.version).0 ≡ frame_bytes c.in-Some.version c.in-Some.message =
     sym (ap (λ (a : MessageAnswer). answer_bytes a.0) c.in_ok-frame.ensures.answered) ∙ ap answer_bytes c.in-Some.is in
-    subst (λ (bytes : List ℕ). IfErr c.write.result (StopsAnswer (g.K.Sink.faults c.args.sink.now) (g.K.Sink.faults c.write.new.sink) (g.K.Sink.written c.args.sink.now) (g.K.Sink.written c.write.new.sink) bytes)) (sym same) c.write.ensures.err
+    subst (λ (bytes : List ℕ). IfErr c.write.result (StopsAnswer (g.D.Duplex.write_faults c.args.duplex.now) (g.D.Duplex.write_faults c.write.new.duplex) (g.D.Duplex.written c.args.duplex.now) (g.D.Duplex.written c.write.new.duplex) bytes)) (sym same) c.write.ensures.err
 
 pub returns-in-None-clause-handed : goal.returns-in-None-clause-handed
 returns-in-None-clause-handed g c =

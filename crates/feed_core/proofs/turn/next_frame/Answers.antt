@@ -1,48 +1,39 @@
-use Rattle.std.proofs.Common.{rules, inr, sym, subst, arith}
-use Rattle.feed_core.specs.FeedTurns.{IsTurn, KeepsFinished}
+use Rattle.std.proofs.Common.{sym, subst}
+use Rattle.ccp_messages.specs.declared.message.Message.TheVariants as message
+use Rattle.feed_core.specs.FeedBytes.{answer_to}
+use Rattle.feed_core.specs.FeedStops.{StopsAnswer}
 use Rattle.feed_core.proofs.FeedEats.{some-used}
-use Rattle.feed_core.proofs.TurnLemmas.{turns-without, keeps-without}
 use Rattle.feed_core.proofs.turn.next_frame.Goals as goal
 
-pub returns-in-Ok-answer-clause-turn : goal.returns-in-Ok-answer-clause-turn
-returns-in-Ok-answer-clause-turn g c =
-    let used = some-used c.args.bytes.now c.in-Ok.message c.in-Ok.version c.in-Ok.used c.in-Ok.ensures.found in
+pub returns-in-Ok-clause-turn : goal.returns-in-Ok-clause-turn
+returns-in-Ok-clause-turn g c =
+    let frame = c.in-Some.frame in
+    let used = some-used c.args.bytes.now (message.Ack frame.flow frame.ack) frame.version frame.used c.in-Some.ensures in
     record {
-      message = c.in-Ok.message;
-      version = c.in-Ok.version;
-      begins = c.in-Ok.ensures.found;
+      message = message.Ack frame.flow frame.ack;
+      version = frame.version;
+      begins = c.in-Some.ensures;
       some = used.0;
       within = used.1;
-      next = sym c.in-Ok-answer.ensures.state;
-      counted = c.in-Ok-answer.ensures.one;
-      written = c.in-Ok-answer.ensures.written;
-      handed = c.in-Ok-answer.ensures.handed;
+      next = sym c.in-Ok.ensures.state;
+      counted = c.in-Ok.ensures.one;
+      written = c.in-Ok.ensures.written;
+      handed = c.in-Ok.ensures.handed;
     }
 
 pub returns-in-Err-clause-turn : goal.returns-in-Err-clause-turn
 returns-in-Err-clause-turn g c =
-    subst (IsTurn (g.K.Sink.faults c.args.sink.now) (g.K.Sink.faults c.args.sink.now) (g.K.Sink.is_finished c.args.sink.now) (g.K.Sink.written c.args.sink.now) (g.K.Sink.written c.args.sink.now) c.args.feed.now c.args.feed.now c.args.bytes.now)
-    (sym c.without_frame.ensures)
-    (turns-without (g.K.Sink.faults c.args.sink.now) (g.K.Sink.is_finished c.args.sink.now) (g.K.Sink.written c.args.sink.now) c.args.feed.now c.args.bytes.now (λ i. omega (arith, c.type_inv.bytes i))
-    c.decode.result c.decode.ensures.told c.decode.ensures.more c.decode.ensures.bad c.decode.ensures.memory c.in-Err.fault c.in-Err.is)
-
-pub returns-in-Err-NoMemory-clause-turn : goal.returns-in-Err-NoMemory-clause-turn
-returns-in-Err-NoMemory-clause-turn g c = record {
-  cause = inr (record {
-    message = c.in-Ok.message;
-    version = c.in-Ok.version;
-    used = c.in-Ok.used;
-    begins = c.in-Ok.ensures.found;
-    takes = c.answer.ensures.memory (search rules);
-  });
-  nothing = search rules;
-}
-
-pub returns-in-Err-clause-kept : goal.returns-in-Err-clause-kept
-returns-in-Err-clause-kept g c =
-    subst (KeepsFinished (g.K.Sink.is_finished c.args.sink.now) (g.K.Sink.is_finished c.args.sink.now)) (sym c.without_frame.ensures)
-    (keeps-without (g.K.Sink.is_finished c.args.sink.now) c.in-Err.fault)
-
-pub returns-in-Err-NoMemory-clause-kept : goal.returns-in-Err-NoMemory-clause-kept
-returns-in-Err-NoMemory-clause-kept g c =
-    subst (λ sink. g.K.Sink.is_finished sink) (sym (c.answer.ensures.untouched (search rules)))
+    let frame = c.in-Some.frame in
+    let used = some-used c.args.bytes.now (message.Ack frame.flow frame.ack) frame.version frame.used c.in-Some.ensures in
+    let stops = subst (StopsAnswer (g.D.Duplex.write_faults c.args.duplex.now) (g.D.Duplex.write_faults c.answer_ack.new.duplex) (g.D.Duplex.written c.args.duplex.now) (g.D.Duplex.written c.answer_ack.new.duplex) (answer_to c.args.feed.now (message.Ack frame.flow frame.ack) frame.version))
+    c.in-Err.ensures.failed c.in-Err.ensures.err in
+    record {
+      message = message.Ack frame.flow frame.ack;
+      version = frame.version;
+      used = frame.used;
+      begins = c.in-Some.ensures;
+      some = used.0;
+      within = used.1;
+      rose = stops.0;
+      written = stops.1;
+    }

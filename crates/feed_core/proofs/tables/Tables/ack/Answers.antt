@@ -1,5 +1,5 @@
 use Rattle.std.proofs.Common.{◌≡◌, ◌∙◌, ◌<◌, Some, None, option_map, length, ap, sym, refl, arith, rules}
-use Rattle.feed_core.specs.Feed.{running_code, in_version}
+use Rattle.feed_core.specs.Feed.{running_code}
 use Rattle.feed_core.specs.FeedHolds.{codes_in}
 use Rattle.feed_core.proofs.FeedLemmas.{ack-absent, ack-counted, ack-heard}
 use Rattle.feed_core.proofs.tables.Tables.ack.Goals as goal
@@ -12,7 +12,7 @@ returns-in_default c =
     record {
       messages = refl;
       handled = ack-absent feed.flows.items (codes_in feed.programs.items) feed.messages c.args.n c.args.version c.index_mut.result.now lt c.index_mut.ensures.value
-          c.args.ack.now c.index_mut.result.now c.refusal-in_default.result none refl c.refusal-in_default.ensures;
+          c.args.ack.now c.index_mut.result.now c.put_refusal-in_default.new.answer none refl c.put_refusal-in_default.ensures;
     }
 
 pub returns-in_default-code_of : goal.returns-in_default-code_of
@@ -25,7 +25,7 @@ returns-in_default-code_of c =
     record {
       messages = refl;
       handled = ack-counted feed.flows.items (codes_in feed.programs.items) feed.messages c.args.n c.args.version c.index_mut.result.now lt c.index_mut.ensures.value
-          c.args.ack.now c.in-Some.flow c.pass.new.self c.in-Some.is runs c.pass.ensures;
+          c.args.ack.now c.in-Some.flow c.pass.new.self c.args.answer.now c.in-Some.is runs c.pass.ensures c.requires.none;
     }
 
 pub returns : goal.returns
@@ -39,6 +39,5 @@ returns c =
     record {
       messages = refl;
       handled = ack-heard feed.flows.items (codes_in feed.programs.items) feed.messages c.args.n c.args.version c.index_mut.result.now lt c.index_mut.ensures.value
-          c.args.ack.now c.in-Some.flow c.ack.new.self epoch code c.in_version.result c.in-Some.is runs c.ack.ensures.after
-          (c.in_version.ensures ∙ ap (in_version c.in-Some.flow.version) c.ack.ensures.message);
+          c.args.ack.now c.in-Some.flow c.ack.new.self epoch code c.ack.new.answer c.in-Some.is runs c.ack.ensures.after c.ack.ensures.message;
     }
