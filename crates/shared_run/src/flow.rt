@@ -13,7 +13,7 @@ ghost use Rattle.shared_run.specs.RoundFlows.{MayMake, IsAfterHistory, HasHistor
 
 use crate::round_flow::RoundFlow;
 use campaign_core::{Row, Tally, is_due};
-use ccp_base::NoMemory;
+use ccp_base::{Ack, NoMemory};
 use flow_core::{Case, Core, Given, Letter};
 use shared_link::{Ask, PackedAck};
 use std::alloc::Global;
@@ -56,9 +56,12 @@ impl<F: RoundFlow> SharedFlow<F> {
             self.old.flow self.old.tally self.new.flow self.new.tally) }
         ensures nothing { length acks.now ≡ 0 → IsOk result }
     {
+        // one place for all of them: none is copied
+        let mut whole = Ack::default();
         let mut left = acks;
         while let Some((ack, rest)) = left.split_first() {
-            self.hear(ack);
+            ack.unpack(&mut whole);
+            self.hear(&whole);
             self.settle_all(alloc, false)?;
             left = rest;
         }
@@ -107,14 +110,14 @@ impl<F: RoundFlow> SharedFlow<F> {
     }
 
     /// Takes an acknowledgement.
-    fn hear(&mut self, packed: &PackedAck)
-        requires { MayHear F.at (packed.now ∷ []) self.old.flow self.old.tally }
-        ensures { Goes F.at (λ core. with_ack core packed.entry.now)
+    fn hear(&mut self, ack: &Ack)
+        requires { MayHear F.at (ack.now ∷ []) self.old.flow self.old.tally }
+        ensures { Goes F.at (λ core. with_ack core ack.entry.now)
             self.old.flow self.old.tally self.new.flow self.new.tally }
     {
-        let ack = packed.ack();
-        self.flow.hear(&ack);
-        self.tally.sums = self.tally.sums.with(&ack);
+        // before the flow hears it: its numbers are still at hand
+        self.tally.sums = self.tally.sums.with(ack);
+        self.flow.hear(ack);
         self.raise_peak();
     }
 
