@@ -21,6 +21,9 @@ def pytest_configure(config: pytest.Config) -> None:
     # a job in the background of a script ignores Ctrl-C, and so would all that tests start and interrupt
     if signal.getsignal(signal.SIGINT) is signal.SIG_IGN:
         signal.signal(signal.SIGINT, signal.default_int_handler)
+    # and one that nohup started ignores SIGHUP, as this process still does
+    if signal.getsignal(signal.SIGHUP) is signal.SIG_IGN:
+        signal.signal(signal.SIGHUP, lambda number, frame: None)
     if config.getoption("--program"):
         os.environ["CCP_PROGRAM"] = os.path.abspath(config.getoption("--program"))
 

@@ -19,7 +19,7 @@ from typing import List, Sequence
 
 from .arguments import Parser
 from .errors import CcpError, UsageError
-from .interrupts import Ended, catch_signals
+from .interrupts import Ended, caught_signals
 from .tables import COMMANDS, PACKAGES
 
 
@@ -27,8 +27,18 @@ def main(arguments: Sequence[str]) -> int:
     """Runs a command, and returns its exit status."""
     words = list(arguments)
     open_streams()
+    try:
+        with caught_signals():
+            return status_of(words)
+    except Ended as ended:
+        return ended.status
+    except KeyboardInterrupt:
+        return 130
+
+
+def status_of(words: List[str]) -> int:
+    """Runs a command; whatever ends it becomes a line for its user and an exit status."""
     name = words[0] if words and words[0] in COMMANDS else ""
-    catch_signals()
     try:
         status = dispatch(words)
         sys.stdout.flush()
@@ -38,10 +48,6 @@ def main(arguments: Sequence[str]) -> int:
         return error.status
     except BrokenPipeError:
         return leave_pipe()
-    except Ended as ended:
-        return ended.status
-    except KeyboardInterrupt:
-        return 130
     except ModuleNotFoundError as error:
         complain(name, missing_text([(error.name or str(error)).split(".")[0]]))
         return 1

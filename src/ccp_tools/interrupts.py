@@ -15,13 +15,18 @@ class Ended(KeyboardInterrupt):
     status = 143
 
 
-def catch_signals() -> None:
-    """Has SIGTERM and SIGHUP raise Ended, where nothing else is said of them."""
-    if threading.current_thread() is not threading.main_thread():
-        return
-    for number in (signal.SIGTERM, signal.SIGHUP):
-        if signal.getsignal(number) is signal.SIG_DFL:
-            signal.signal(number, raise_ended)
+@contextmanager
+def caught_signals() -> Iterator[None]:
+    """Has SIGTERM and SIGHUP raise Ended inside, where nothing else is said of them."""
+    is_main = threading.current_thread() is threading.main_thread()
+    caught = [number for number in INTERRUPTS[1:] if is_main and signal.getsignal(number) is signal.SIG_DFL]
+    for number in caught:
+        signal.signal(number, raise_ended)
+    try:
+        yield
+    finally:
+        for number in caught:
+            signal.signal(number, signal.SIG_DFL)
 
 
 def raise_ended(number: int, _: object) -> None:
