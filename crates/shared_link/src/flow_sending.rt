@@ -3,7 +3,7 @@ ghost use Rattle.std.specs.Prelude.{◌≡◌, ℕ, ◌+◌, ◌^◌, ◌<◌, �
 ghost use Rattle.ccp_base.specs.Limits.{most_flight, most_queue};
 ghost use Rattle.link_model.specs.Chances.{chance_number};
 ghost use Rattle.link_model.specs.Counts.{most_packets};
-ghost use Rattle.link_model.specs.Link.{Lost};
+ghost use Rattle.link_model.specs.Link.{Lost, is_listed};
 ghost use Rattle.shared_link.specs.declared.shared_case.FlowLink.{FlowLink};
 ghost use Rattle.shared_link.specs.SharedLimits.{IsFlowWithin};
 ghost use Rattle.shared_link.specs.SharedStanding.{flow_standing};
@@ -68,13 +68,31 @@ impl FlowTraffic {
         ensures now { sending.new.now ≡ sending.old.now }
         ensures chance { IsNextChance trace.now link.now room self.old.sent sending.old sending.new }
     {
-        let losses = link.losses.as_slice();
-        self.passed = next_loss(losses, self.passed, self.sent);
-        if is_at(losses, self.passed, self.sent) || sending.queue.waiting >= u128::from(room) {
+        if self.is_next_listed(link) || sending.queue.waiting >= u128::from(room) {
             self.lose(link, sending.now);
             return;
         }
         self.serve(link, trace, sending);
+    }
+
+    /// Whether the next packet's number is listed. Most flows have no listed loss, or none left: they are asked first.
+    fn is_next_listed(&mut self, link: &FlowLink) -> bool
+        requires link { IsFlowWithin link.now }
+        requires kept { IsFlowKept link.now self.old }
+        ensures kept { IsFlowKept link.now self.new }
+        ensures listed { result ≡ is_listed self.old.sent link.now.losses }
+        ensures standing { flow_under_way self.new ≡ flow_under_way self.old }
+        ensures in_flight { self.new.in_flight ≡ self.old.in_flight }
+        ensures allowance { self.new.allowance ≡ self.old.allowance }
+        ensures sent { self.new.sent ≡ self.old.sent }
+        ensures acks { self.new.acks ≡ self.old.acks }
+    {
+        let losses = link.losses.as_slice();
+        if self.passed >= losses.len() {
+            return is_at(losses, self.passed, self.sent);
+        }
+        self.passed = next_loss(losses, self.passed, self.sent);
+        is_at(losses, self.passed, self.sent)
     }
 
     /// Sends a packet that is lost, at `now`, in microseconds.
