@@ -1,5 +1,5 @@
 //! A driven flow: each call makes one letter of its word, and others read what it has.
-ghost use Rattle.std.specs.Prelude.{◌≡◌, ◌<◌, [], ◌∷◌, ◌++◌, length, map, true, None, Some, IfOk, OnOk, OnErr};
+ghost use Rattle.std.specs.Prelude.{◌≡◌, ◌<◌, [], ◌∷◌, ◌++◌, length, map, true, None, Some, IfOk, IfSome, OnOk, OnErr};
 ghost use Rattle.ccp_base.specs.FieldReg.{first_bad_pair};
 ghost use Rattle.driven_flow.specs.Driven.{code_in, is_known, is_known_for, bad_in, MayMake, told_out, world_by, flow_by};
 ghost use Rattle.driven_flow.specs.Driven.{present_of, after_next, after_given, left_of, peak_by};
@@ -10,6 +10,7 @@ ghost use Rattle.campaign_core.specs.CampaignRow.{row_over};
 ghost use Rattle.flow_core.specs.Books.{ticket_line, epoch_line};
 ghost use Rattle.flow_core.specs.LiveText.{end_of};
 ghost use Rattle.flow_core.specs.World.{notice_of, track_of};
+ghost use Rattle.flow_core.specs.Words.{is_complete};
 
 use crate::answer::Answer;
 use crate::case::DrivenCase;
@@ -153,6 +154,16 @@ impl<'p> DrivenFlow<'p> {
 
     /// The next letter of the campaign word, None if the word is complete.
     pub fn next_letter(&self) -> Option<Letter>
+        ensures next { result ≡ next_of (flow_by self.now) self.now.case.lag (world_by self.now) }
+        ensures legal { IfSome result (MayMake self.now) }
+        ensures complete { result ≡ None → is_complete (flow_by self.now) (world_by self.now) ≡ true }
+    {
+        self.find_next()
+    }
+
+    // A function of its own: the proof of `next_letter` cites its clause.
+    /// The next letter of the campaign word.
+    fn find_next(&self) -> Option<Letter>
         ensures { result ≡ next_of (flow_by self.now) self.now.case.lag (world_by self.now) }
     {
         let due = self.state.parts.is_due(&self.state.case);
