@@ -232,7 +232,10 @@ def test_spans_that_differ_are_refused(tmp_path, program):
     made = command("compare", *words, "--out", tmp_path / "out")
     assert made.status == 1 and "isn't comparable: --seconds S" in made.errors and "--different-spans" in made.errors
     made = command("compare", *words, "--different-spans", "--out", tmp_path / "out")
-    assert made.status == 0 and "measured over different spans" in (tmp_path / "out" / "report.html").read_text()
+    page = (tmp_path / "out" / "report.html").read_text()
+    assert made.status == 0 and "measured over different spans" in page
+    # a long condition has a row of its own
+    assert '<div class="long"><dt>gaps</dt><dd>the trace train has ' in page and "<div><dt>seeds</dt>" in page
 
 
 def test_no_sender_ends_before_the_span():
