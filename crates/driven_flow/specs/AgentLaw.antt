@@ -48,7 +48,8 @@ pub record IsOfCase (s : DrivenState) (case : Case) : Type 0 where
   pub program : s.program ≡ (course_of case.agent).ss.number
   pub values : s.values ≡ values_of case.agent (opening_change case.agent)
   pub answers :
-      s.answers ≡ answers_from (over_codes case) (from_link (over_codes case) case.link) (opening (over_codes case)) s.word
+      s.answers
+      ≡ answers_from (over_codes case) (from_link (over_codes case) case.link) (opening (over_codes case)) s.word
 
 -- a state without its agent and without the agent's replies
 abbrev pub without_reply : {X : Type 0} → Answered X → Answered X

@@ -3,7 +3,7 @@ use Rattle.std.specs.Prelude.{◌≡◌, ℕ, ◌==◌, ◌*◌, ◌<◌, max, i
 use Rattle.std.specs.Prelude.{List, [], ◌∷◌, ◌++◌, length, slice_get}
 use Rattle.std.specs.Option.{ForSome}
 use Rattle.ccp_base.specs.Limits.{most_fields, most_controls}
-use Rattle.ccp_base.specs.FieldReg.{Pair}
+use Rattle.ccp_base.specs.FieldReg.{Pair, first_bad_pair}
 use Rattle.ccp_base.specs.Course.{initial_segments}
 use Rattle.ccp_base.specs.declared.place.Place.{Place}
 use Rattle.ccp_base.specs.declared.exchange.Reply.TheVariants.{Nothing}
@@ -20,9 +20,7 @@ use Rattle.flow_core.specs.Lift.{Placing, place_at, map_world}
 use Rattle.flow_core.specs.LiveText.{Sources, source_at, sources_of}
 use Rattle.flow_core.specs.Readings.{Flow, by_code, env_of}
 use Rattle.flow_core.specs.World.{World, Taken, track_of, time_of, era_of, with_event, after_take, told_as}
-use Rattle.flow_core.specs.Words.{Giving, with_given, from_link}
-use Rattle.flow_core.specs.Words.{is_legal}
-use Rattle.ccp_base.specs.FieldReg.{first_bad_pair}
+use Rattle.flow_core.specs.Words.{Giving, with_given, from_link, is_legal}
 use Rattle.ccp_base.specs.declared.look.Role.{Role}
 use Rattle.ccp_base.specs.declared.course.Phase.TheVariants.{SlowStart}
 use Rattle.ccp_base.specs.declared.exchange.Told.{Told}
@@ -32,9 +30,6 @@ use Rattle.driven_flow.specs.declared.case.DrivenCase.{DrivenCase}
 use Rattle.driven_flow.specs.declared.answer.Answer.{Answer}
 
 -- ---- its programs
-
-pub none-below : (most : ℕ) → ForSome None (λ n. n < most)
-none-below most = λ n none. cc
 
 -- of programs, each with its number, the code of the first one with this number; one without an instruction if there is
 -- none
@@ -47,7 +42,11 @@ abbrev pub is_known : List (ℕ × Built) → ℕ → Bool
 is_known [] number = false
 is_known (program ∷ rest) number = if program.0 == number then true else is_known rest number
 
--- a flow's state has an agent; this one is never asked
+-- where nothing is named, what is named is in range
+pub none-below : (most : ℕ) → ForSome None (λ n. n < most)
+none-below most = λ n none. cc
+
+-- a flow's state has an agent; this one, with this program in both roles, is never asked
 abbrev pub unasked_role : Role
 unasked_role = record {
   number = 0;
@@ -120,13 +119,14 @@ abbrev pub is_known_for : List (ℕ × Built) → Option ℕ → Bool
 is_known_for programs None = true
 is_known_for programs (Some program) = is_known programs program
 
--- the place of the first value of a control variable that the program doesn't have which the values are for
+-- the place of an answer's first value that names a control variable which the program that its values are for, if this
+-- one runs, doesn't have
 abbrev pub bad_in : List (ℕ × Built) → ℕ → Given → Option ℕ
 bad_in programs running given =
     first_bad_pair (length (code_in programs (program_for running given.program)).controls) given.values
 
--- an update writes its values, and without values does nothing; a change ends the epoch, starts one, and makes an untold
--- notice void
+-- an update writes its values, and without values does nothing; a change ends the epoch, starts one, and makes an
+-- untold notice void
 abbrev pub with_values_given : {X : Type 0} → Flow X → Option ℕ → List Pair → World X → World X
 with_values_given flow None [] w = w
 with_values_given flow None (pair ∷ rest) w = record w { present = with_event (updated (pair ∷ rest)) w.present }
@@ -215,7 +215,7 @@ abbrev pub peak_by : {X : Type 0} → Flow X → DrivenState → ℕ
 peak_by flow s =
     peak_from flow (from_link flow s.case.link) s.answers (begun flow s.case.link.mss s.program s.values) s.word
 
--- the state after one more letter, and that of the present word
+-- the flow over its codes, and its state after its word
 abbrev pub flow_by : DrivenState → Flow ℕ
 flow_by s = over_codes s.programs s.case
 
@@ -256,8 +256,8 @@ placed_in programs program = place_at (places_of programs program)
 abbrev pub sourced_by : DrivenState → Flow Place
 sourced_by s = over_sources (sources_of s.programs) s.case
 
--- over the sources of its programs the flow has the same state, where each fault's instruction stands for its place, and
--- the same greatest window, next letter, track and row
+-- over the sources of its programs the flow has the same state, where each fault's instruction stands for its place,
+-- and the same greatest window, next letter, track and row
 pub record ReadsAlike (s : DrivenState) : Type 0 where
   pub state : map_world (placed_in s.programs) (world_by s) ≡ state_by (sourced_by s) s
   pub peak : peak_by (flow_by s) s ≡ peak_by (sourced_by s) s

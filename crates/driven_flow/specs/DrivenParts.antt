@@ -87,7 +87,10 @@ step_note flow ack (reported fields) s = record s {
   waiting = s.waiting ++ report_of (reporter flow s.program s.epoch) s.track ack s.track.env fields ∷ [];
 }
 step_note flow ack (failed fault) s = record s {
-  untold = Some (notice_with flow (λ (site : ℕ). site) (failure_with s.program s.epoch s.track.count ack s.track.env.cwnd fault));
+  untold =
+      Some
+      (notice_with flow (λ (site : ℕ). site)
+      (failure_with s.program s.epoch s.track.count ack s.track.env.cwnd fault));
   faults = s.faults + 1;
 }
 
@@ -169,4 +172,5 @@ Obeys programs old new (Some program) values = Changes programs old new program 
 -- ---- when an answer is due
 
 abbrev pub is_due_by : DrivenCase → Summary → Bool
-is_due_by case s = due_to (nat_lt s.acks case.acks) case.lag s.acks (option_map (λ (issued : Issued). issued.taken) s.out)
+is_due_by case s =
+    due_to (nat_lt s.acks case.acks) case.lag s.acks (option_map (λ (issued : Issued). issued.taken) s.out)

@@ -79,8 +79,8 @@ abbrev pub IsState : State → Type 0
 IsState s = IsDriven (driven_of s) s.parts s.link s.journal s.sums s.peak
 
 -- what a flow has beside its case after its first change
-pub record IsOpened (programs : List (ℕ × Built)) (case : DrivenCase) (program : ℕ) (values : List Pair) (opened : Opened)
-    : Type 0 where
+pub record IsOpened (programs : List (ℕ × Built)) (case : DrivenCase) (program : ℕ) (values : List Pair)
+    (opened : Opened) : Type 0 where
   pub whole : IsParts programs case opened.parts
   pub stands :
       summary_by opened.parts

@@ -143,7 +143,8 @@ impl<'p> DrivenFlow<'p> {
           answers = self.old.answers ++ answer.now ∷ [];
           word = self.old.word ++ Letter.C ∷ [];
         }) }
-        ensures world { OnOk result (world_by self.new ≡ after_given (flow_by self.old) answer.now (world_by self.old)) }
+        ensures world { OnOk result (
+            world_by self.new ≡ after_given (flow_by self.old) answer.now (world_by self.old)) }
         ensures fewer { OnOk result (left_of self.new < left_of self.old) }
         ensures unchanged { OnErr result (self.new ≡ self.old) }
     {
