@@ -8,5 +8,6 @@ pub mod RunnableLemmas
 pub mod RefinementLemmas
 pub mod FormLemmas
 pub mod RunLemmas
+pub mod ConditionLemmas
 pub mod WorkLemmas
 pub mod MachineLemmas
