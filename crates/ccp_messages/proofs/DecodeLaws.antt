@@ -184,7 +184,7 @@ lacks-found (More needed) answer lacks none = absurd cc
 lacks-found (Bad field place) answer lacks none = absurd cc
 lacks-found NoMemory answer lacks none = lacks
 
--- a want of memory comes only for a whole frame
+-- the answer is out of memory only for a whole frame
 pub told_whole : (bytes : List ℕ) → AllBytes bytes → IsFound (decoded_of bytes) → (m : Message) × (v : Version) × (n : ℕ) × Begins bytes m v n
 told_whole bytes fits found = (found.0.0, found.0.1, found.0.2, decoded-begins bytes found.0 fits found.1)
 

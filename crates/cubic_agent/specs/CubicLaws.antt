@@ -1,4 +1,4 @@
--- What RFC 9438 asks of a sender, said of CUBIC after all that it may be told.
+-- What RFC 9438 asks of a sender, stated for CUBIC after any reports and notices.
 use Rattle.std.specs.Prelude.{◌≡◌, ℕ, ◌+◌, ◌*◌, ◌/◌, ◌<◌, ◌≤◌, max, List, [], ◌∷◌}
 use Rattle.ccp_base.specs.Limits.{most_segment_bytes, most_flight}
 use Rattle.ccp_base.specs.Saturating.{◌+ˢ◌}
@@ -23,7 +23,7 @@ abbrev pub after_all : CubicState → List Told → CubicState
 after_all s [] = s
 after_all s (first ∷ later) = after_all (cubic s first).0 later
 
--- an agent of a flow, after all that it was told from the beginning on
+-- the agent of a flow after these reports and notices, from the flow's beginning
 abbrev pub cubic_told : ℕ → Role → Role → List Told → CubicState
 cubic_told mss ss ca tolds = after_all (first_cubic mss ss ca) tolds
 
@@ -34,7 +34,7 @@ read_by s report = measurement_of (role_of s.course.mode s.course).look report
 abbrev pub reply_to : CubicState → Report → Reply
 reply_to s report = (cubic s (told.Report report)).1
 
--- this holds of an agent of every flow, whatever it was told, of what it reads of the next report, and of its reply
+-- holds for every flow, all earlier reports and notices, the fields read from the next report, and its reply
 abbrev pub Always : (CubicState → Measurement → Reply → Type 0) → Type 0
 Always P = (mss : ℕ) (ss ca : Role) (tolds : List Told) (report : Report) → IsSegment mss
     → P (cubic_told mss ss ca tolds) (read_by (cubic_told mss ss ca tolds) report) (reply_to (cubic_told mss ss ca tolds) report)
@@ -142,7 +142,7 @@ Restarts s r reply =
 abbrev pub IsCalm : CubicState → Measurement → Reply → Type 0
 IsCalm s r reply = IfChange (λ program window cap. s.calm ≤ r.now) reply
 
--- what is told has no timeout
+-- this report shows no timeout; a notice has none
 abbrev pub IsTimely : CubicState → Told → Type 0
 IsTimely s (told.Report report) = (read_by s report).timeout ≡ 0
 IsTimely s (told.Fault notice) = Unit {0}

@@ -7,8 +7,8 @@ use Rattle.flow_core.specs.World.{World, after_ack, after_take, after_answer}
 use Rattle.flow_core.specs.Words.{is_legal, is_complete}
 use Rattle.flow_core.specs.Summaries.{summary, step_ack, step_take, step_answer, may_make, is_done}
 
--- of every state: each step makes of its summary that of the state after the letter, and which letters are legal and
--- whether a word is complete is told by the summary
+-- for every state: a step on its summary gives the summary of the state after the letter, and the summary decides which
+-- letters are legal and whether a word is complete
 pub record SumsUp {X : Type 0} (flow : Flow X) : Type 0 where
   pub heard : (ack : Ack) (w : World X) → step_ack flow ack (summary flow w) ≡ summary flow (after_ack flow ack w)
   pub taken : (w : World X) → step_take (summary flow w) ≡ summary flow (after_take w)

@@ -1,8 +1,6 @@
 -- The times of lines of which none falls, and of which the last is above 0, are a trace.
-use Rattle.std.proofs.Common.{◌≡◌, ◌≢◌, ℕ, zero, suc, ◌+◌, ◌-◌, ◌<◌, ◌≤◌, Bool, true, false, cond, leb, List, [], ◌∷◌, length, get_or, Option, Some, None, refl, sym, subst, arith}
+use Rattle.std.proofs.Common.{◌≡◌, ℕ, zero, suc, ◌+◌, ◌<◌, ◌≤◌, Bool, true, false, cond, leb, List, [], ◌∷◌, length, get_or, Option, Some, None, refl, sym, subst, arith}
 use Rattle.std.proofs.lemmas.Bool.Decides.{nat_tests}
-use Rattle.std.proofs.lemmas.Option.{slice_get_within, get_or_from_slice_get}
-use Rattle.std.specs.List.{slice_get}
 use Rattle.ccp_base.specs.Numerals.{numeral_of}
 use Rattle.ccp_base.specs.Parts.{without_last}
 use Rattle.link_model.specs.Traces.{period, IsTrace}
@@ -77,10 +75,3 @@ are_trace lines times same none some above =
       period = above;
       within = up_to_an_hour 0 times rises;
     }
-
--- a list with a last time that isn't 0
-pub last_above : (times : List ℕ) (last : ℕ) → slice_get times (length times - 1) ≡ Some last → last ≢ 0 → (0 < length times) × (0 < period times)
-last_above times last is above =
-    let within = slice_get_within times (length times - 1) last is in
-    let same : period times ≡ last = get_or_from_slice_get times (length times - 1) last 0 is in
-    (omega arith, omega arith)

@@ -1,4 +1,4 @@
--- What RFC 5681 asks of a sender, said of Reno after all that it may be told.
+-- What RFC 5681 asks of a sender, stated for Reno after any reports and notices.
 use Rattle.std.specs.Prelude.{◌≡◌, ℕ, ◌+◌, ◌*◌, ◌/◌, ◌<◌, ◌≤◌, min, max, List, [], ◌∷◌}
 use Rattle.ccp_base.specs.Limits.{most_segment_bytes, most_flight}
 use Rattle.ccp_base.specs.Saturating.{◌+ˢ◌}
@@ -22,7 +22,7 @@ abbrev pub after_all : RenoState → List Told → RenoState
 after_all s [] = s
 after_all s (first ∷ later) = after_all (reno s first).0 later
 
--- an agent of a flow, after all that it was told from the beginning on
+-- the agent of a flow after these reports and notices, from the flow's beginning
 abbrev pub reno_told : ℕ → Role → Role → List Told → RenoState
 reno_told mss ss ca tolds = after_all (first_reno mss ss ca) tolds
 
@@ -33,7 +33,7 @@ read_by s report = measurement_of (role_of s.course.mode s.course).look report
 abbrev pub reply_to : RenoState → Report → Reply
 reply_to s report = (reno s (told.Report report)).1
 
--- this holds of an agent of every flow, whatever it was told, of what it reads of the next report, and of its reply
+-- holds for every flow, all earlier reports and notices, the fields read from the next report, and its reply
 abbrev pub Always : (RenoState → Measurement → Reply → Type 0) → Type 0
 Always P = (mss : ℕ) (ss ca : Role) (tolds : List Told) (report : Report) → IsSegment mss
     → P (reno_told mss ss ca tolds) (read_by (reno_told mss ss ca tolds) report) (reply_to (reno_told mss ss ca tolds) report)
@@ -133,7 +133,7 @@ Restarts s r reply =
 abbrev pub IsCalm : RenoState → Measurement → Reply → Type 0
 IsCalm s r reply = IfChange (λ program window cap. s.calm ≤ r.now) reply
 
--- what is told has no timeout
+-- this report shows no timeout; a notice has none
 abbrev pub IsTimely : RenoState → Told → Type 0
 IsTimely s (told.Report report) = (read_by s report).timeout ≡ 0
 IsTimely s (told.Fault notice) = Unit {0}
