@@ -49,7 +49,7 @@ pub record RefusesEarly (task : Task) (source : StreamChange) (refusal : Refusal
   pub taken : Takes source.old source.new bytes
   pub cause : (more : List ℕ) → IsInputRefusal task (bytes ++ more) refusal
 
--- whether the input is a stream that is answered as it comes, and how it is refused then or else
+-- whether the input is judged as it comes, and how it is refused then or else
 abbrev pub RefusesAny : Bool → Task → StreamChange → Refusal → Type 0
 RefusesAny true task source refusal = RefusesEarly task source refusal ⊎ RefusesBytes task source refusal
 RefusesAny false task source refusal = RefusesInput task source refusal

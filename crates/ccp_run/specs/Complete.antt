@@ -5,7 +5,7 @@ use Rattle.ccp_run.specs.declared.outcome.Outcome.{Outcome}
 use Rattle.ccp_run.specs.declared.refusal.Refusal.{Refusal}
 use Rattle.ccp_run.specs.declared.status.Status.{Status}
 use Rattle.ccp_run.specs.declared.status.Status.TheVariants as status
-use Rattle.ccp_run.specs.Modes.{Task, limit_of, is_read, is_stream, IsInput, IsInputRefusal}
+use Rattle.ccp_run.specs.Modes.{Task, limit_of, is_read, is_answered, IsInput, IsInputRefusal}
 use Rattle.ccp_run.specs.Run.{IsRun}
 use Rattle.ccp_run.specs.Statuses.{status_number}
 use Rattle.ccp_run.specs.Streams.{StreamChange}
@@ -26,7 +26,7 @@ pub record AnswersOrRefuses (task : Task) (source sink : StreamChange) (outcome 
       → (Rose source.before source.now → ⊥) → (Rose sink.before sink.now → ⊥)
       → EndsAs status.Done outcome
   pub refused : (bytes : List ℕ) → source.old ≡ Some bytes → IsNoInput task bytes
-      → (Rose source.before source.now → ⊥) → (is_stream task ≡ true → Rose sink.before sink.now → ⊥)
+      → (Rose source.before source.now → ⊥) → (is_answered task ≡ true → Rose sink.before sink.now → ⊥)
       → EndsAs status.InputRefused outcome
 
 -- what a call does that is given a task: it is a run of the task, and a complete one

@@ -23,12 +23,13 @@ IsNoFeed bytes (Frame field place) = feed_end bytes ≡ ends.Bad field place
 IsNoFeed bytes (FrameCut place) = feed_end bytes ≡ ends.Cut place
 IsNoFeed bytes _ = ⊥
 
--- it is the one mode that answers as its input comes
+-- each frame is answered as it comes
 abbrev pub feed_rules : Rules
 feed_rules = record {
   limit = Input;
   is_read = true;
   is_stream = true;
+  is_answered = true;
   answers_before = answers_written;
   GoesOn = λ bytes. MayGoOn (feed_end bytes);
   IsInput = λ bytes. feed_end bytes ≡ ends.Whole;

@@ -1,7 +1,8 @@
 -- The tasks that the tool can be given, and the rules of each task's mode.
 use Rattle.std.specs.Prelude.{ℕ, Bool, List}
 use Rattle.ccp_words.specs.declared.mode.Alone.{Alone as AloneMode}
-use Rattle.ccp_words.specs.declared.mode.Alone.TheVariants.{Check, Fold, Feed, Audit}
+use Rattle.ccp_words.specs.declared.mode.Alone.TheVariants.{Check, Fold, Feed, Audit, Drive}
+use Rattle.ccp_words.specs.declared.mode.DriveText.{DriveText}
 use Rattle.ccp_words.specs.declared.mode.ToolMode.{ToolMode}
 use Rattle.ccp_words.specs.declared.mode.ToolMode.TheVariants as mode
 use Rattle.ccp_words.specs.declared.words.Asked.{Asked}
@@ -14,6 +15,7 @@ use Rattle.ccp_run.specs.AcksRuns.{acks_rules}
 use Rattle.ccp_run.specs.AuditRuns.{audit_rules}
 use Rattle.ccp_run.specs.Campaign.{campaign_rules}
 use Rattle.ccp_run.specs.Check.{check_rules}
+use Rattle.ccp_run.specs.Drive.{drive_rules, drive_text_rules}
 use Rattle.ccp_run.specs.FeedRuns.{feed_rules}
 use Rattle.ccp_run.specs.Fold.{fold_rules}
 use Rattle.ccp_run.specs.Live.{live_rules}
@@ -40,6 +42,8 @@ pub data Task : Type 0 where
   -- whether the programs' Install frames are shown
   SharedTimeline : Bool → Task
   SharedAcks : Task
+  -- which text of driven flows, and whether the programs' Install frames are shown
+  Driven : DriveText → Bool → Task
 
 -- what this mode is to do, with these options
 abbrev pub task_in : ToolMode → Asked → Task
@@ -53,6 +57,7 @@ task_in mode.Timeline asked = Timeline asked.wire
 task_in mode.Acks asked = Acks
 task_in mode.SharedTimeline asked = SharedTimeline asked.wire
 task_in mode.SharedAcks asked = SharedAcks
+task_in (mode.Driven text) asked = Driven text asked.wire
 
 -- the rules of a task's mode
 abbrev pub rules_of : Task → Rules
@@ -60,6 +65,7 @@ rules_of (Alone Check) = check_rules
 rules_of (Alone Fold) = fold_rules
 rules_of (Alone Feed) = feed_rules
 rules_of (Alone Audit) = audit_rules
+rules_of (Alone Drive) = drive_rules
 rules_of (Live wire) = live_rules wire
 rules_of (Campaign wire) = campaign_rules wire
 rules_of (Soak number) = soak_rules number
@@ -69,6 +75,7 @@ rules_of (Timeline wire) = timeline_rules wire
 rules_of Acks = acks_rules
 rules_of (SharedTimeline wire) = shared_timeline_rules wire
 rules_of SharedAcks = shared_acks_rules
+rules_of (Driven text wire) = drive_text_rules text wire
 
 -- ---- for every mode
 
@@ -88,9 +95,13 @@ limit_of task = most_bytes (limit_in task)
 abbrev pub is_read : Task → Bool
 is_read task = (rules_of task).is_read
 
--- whether answers are written before the input was read to its end
+-- whether the input is judged as it comes, so that it may be refused before it was read to its end
 abbrev pub is_stream : Task → Bool
 is_stream task = (rules_of task).is_stream
+
+-- whether answers are written before the input was read to its end
+abbrev pub is_answered : Task → Bool
+is_answered task = (rules_of task).is_answered
 
 -- what is written of the output if these bytes were taken, before the input was read to its end
 abbrev pub answers_before : Task → List ℕ → List ℕ

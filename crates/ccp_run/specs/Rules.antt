@@ -9,8 +9,10 @@ pub record Rules : Type 1 where
   pub limit : Limit
   -- whether the source is read
   pub is_read : Bool
-  -- whether answers are written before the input was read to its end
+  -- whether the input is judged as it comes, so that it may be refused before it was read to its end
   pub is_stream : Bool
+  -- whether answers are written before the input was read to its end
+  pub is_answered : Bool
   -- what is written of the output if these bytes were taken, before the input was read to its end
   pub answers_before : List ℕ → List ℕ
   -- bytes that were taken aren't refused so far
@@ -29,6 +31,7 @@ reads_whole most inputs made refused = record {
   limit = most;
   is_read = true;
   is_stream = false;
+  is_answered = false;
   answers_before = λ _. [];
   GoesOn = λ _. Unit {0};
   IsInput = inputs;

@@ -11,7 +11,7 @@ use Rattle.ccp_run.specs.declared.status.Status.TheVariants as status
 use Rattle.ccp_run.specs.Attempts.{MakesOutput, RefusesAny}
 use Rattle.ccp_run.specs.Endings.{Ends, WritesAll}
 use Rattle.ccp_run.specs.ErrorLine.{refusal_line}
-use Rattle.ccp_run.specs.Modes.{Task, limit_of, is_read, is_stream, answers_before, GoesOn}
+use Rattle.ccp_run.specs.Modes.{Task, limit_of, is_read, is_stream, is_answered, answers_before, GoesOn}
 use Rattle.ccp_run.specs.Statuses.{status_number, words_line, read_line, write_line, memory_line}
 use Rattle.ccp_run.specs.Streams.{StreamChange, IsLeft, IsUntouched}
 
@@ -29,7 +29,7 @@ pub record AnswersFront (task : Task) (source sink : StreamChange) : Type 0 wher
   pub takes : Takes source.old source.new taken
   pub front : AppendsPrefix sink.old sink.new (answers_before task taken)
 
--- whether the input is a stream that is answered as it comes, and the front that is written then or else
+-- whether the input is answered as it comes, and the front that is written then or else
 abbrev pub WritesAnyFront : Bool → Task → StreamChange → StreamChange → Type 0
 WritesAnyFront true task source sink = AnswersFront task source sink
 WritesAnyFront false task source sink = WritesFront task source sink
@@ -89,7 +89,7 @@ pub record IsReadFailed (task : Task) (source sink errors : StreamChange) (is_fi
 pub record IsWriteFailed (task : Task) (source sink errors : StreamChange) (outcome : Outcome) : Type 0 where
   pub rose : Rose sink.before sink.now
   pub within : TakesWithin (limit_of task) source.old source.new
-  pub front : WritesAnyFront (is_stream task) task source sink
+  pub front : WritesAnyFront (is_answered task) task source sink
   pub ends : Ends errors outcome status.WriteFailed write_line
 
 -- 6: out of memory; no output is written, but for the answers to a front of what was taken, which are handed on

@@ -4,5 +4,5 @@
 mod mode;
 mod words;
 
-pub use mode::{Alone, ToolMode};
+pub use mode::{Alone, DriveText, ToolMode};
 pub use words::{Asked, Unasked, read_words};

@@ -15,6 +15,19 @@ pub enum Alone {
     Feed,
     /// A judge of printed live runs.
     Audit,
+    /// An agent outside that drives the flows of a scenario by frames.
+    Drive,
+}
+
+/// A text of flows that an agent outside has driven.
+#[derive(Clone, Copy)]
+pub enum DriveText {
+    /// The table of their rows.
+    Table,
+    /// The reports of each flow.
+    Timeline,
+    /// The acknowledgements of each flow.
+    Acks,
 }
 
 /// What the tool can be asked for.
@@ -39,6 +52,8 @@ pub enum ToolMode {
     SharedTimeline,
     /// Several flows over one bottleneck, as the acknowledgements of each flow.
     SharedAcks,
+    /// A scenario and the frames that drove its flows, as a text of these.
+    Driven(DriveText),
 }
 
 /// A name that no mode has.
@@ -63,6 +78,10 @@ pub(crate) fn names<'a>() -> &'a [&'a str]
         "acks",
         "shared-timeline",
         "shared-acks",
+        "drive",
+        "drive-table",
+        "drive-timeline",
+        "drive-acks",
     ]
 }
 
@@ -84,6 +103,10 @@ fn mode_named(name: &str) -> Option<ToolMode>
         "acks" => Some(ToolMode::Acks),
         "shared-timeline" => Some(ToolMode::SharedTimeline),
         "shared-acks" => Some(ToolMode::SharedAcks),
+        "drive" => Some(ToolMode::Alone(Alone::Drive)),
+        "drive-table" => Some(ToolMode::Driven(DriveText::Table)),
+        "drive-timeline" => Some(ToolMode::Driven(DriveText::Timeline)),
+        "drive-acks" => Some(ToolMode::Driven(DriveText::Acks)),
         _ => None,
     }
 }

@@ -1,0 +1,97 @@
+-- What the bytes of an input of `drive` say: a scenario up to the first line `---`, then frames, and what is written for
+-- them, read over the sources of the scenario's programs.
+use Rattle.std.specs.Prelude.{ℕ, ◌-◌, nat_lt, Bool, if◌then◌else◌, Option, Some, None, Result, Ok, Err, List, [], ◌++◌, length}
+use Rattle.ccp_base.specs.Limits.{most_input_bytes, most_audit_bytes}
+use Rattle.feed_core.specs.declared.ending.FeedEnd.{FeedEnd}
+use Rattle.feed_core.specs.declared.ending.FeedEnd.TheVariants as ends
+use Rattle.feed_core.specs.Answering.{Answering, answering}
+use Rattle.feed_core.specs.FeedBytes.{answer_bytes}
+use Rattle.driven_flow.specs.Front.{divided}
+use Rattle.driven_flow.specs.PlannedCases.{driven_cases}
+use Rattle.driven_flow.specs.Session.{SessionParts, FlowState, source_view, opening, first_frame, hear, waits}
+use Rattle.scene_members.specs.declared.mode.SceneMode.TheVariants.{Driven}
+use Rattle.scenario_json.specs.declared.fault.SceneFault.{SceneFault}
+use Rattle.scenario_json.specs.Scene.{Scene, scene_of}
+use Rattle.ccp_run.specs.declared.refusal.Limit.TheVariants.{Input, Audit}
+use Rattle.ccp_run.specs.declared.refusal.Refusal.{Refusal}
+use Rattle.ccp_run.specs.declared.refusal.Refusal.TheVariants.{TooLong, NoSeparator, Frame, FrameCut}
+use Rattle.ccp_run.specs.declared.refusal.Refusal.TheVariants as refusal
+
+-- ---- how an input begins
+
+-- no whole line `---`; more bytes before it than an input of the other modes has; a text before it that is no scenario;
+-- or a scenario, the place in the input where its frames begin, and the bytes from there on
+pub data Beginning : Type 0 where
+  undivided : Beginning
+  long : Beginning
+  faulty : SceneFault → Beginning
+  divided_at : Scene → ℕ → List ℕ → Beginning
+
+abbrev pub with_scene : ℕ → List ℕ → Result Scene SceneFault → Beginning
+with_scene place frames (Ok scene) = divided_at scene place frames
+with_scene place frames (Err fault) = faulty fault
+
+abbrev pub beginning_at : ℕ → Option (List ℕ × List ℕ) → Beginning
+beginning_at size None = undivided
+beginning_at size (Some (text, frames)) =
+    if nat_lt most_input_bytes (length text) then long
+    else with_scene (size - length frames) frames (scene_of Driven text)
+
+abbrev pub beginning_of : List ℕ → Beginning
+beginning_of bytes = beginning_at (length bytes) (divided bytes)
+
+-- ---- the frames of a scenario
+
+-- the session of a scenario's flows before the first frame
+abbrev pub begun : Scene → SessionParts
+begun scene = opening (driven_cases 0 scene.cases)
+
+-- the frame that begins the first flow, if there is one
+abbrev pub first_written : Scene → List ℕ
+first_written scene = answer_bytes (first_frame (begun scene))
+
+-- the answers to the frames from a place of the input on, how the input ends, and the session then
+abbrev pub driving : Scene → ℕ → Answering SessionParts
+driving scene place = answering (hear (source_view scene.programs)) waits most_audit_bytes place (begun scene)
+
+-- ---- what is written, and what is refused
+
+abbrev pub written_in : Beginning → List ℕ
+written_in (divided_at scene place frames) = first_written scene ++ (driving scene place).written frames
+written_in _ = []
+
+-- what is written for the bytes that were taken of an input
+abbrev pub drive_written : List ℕ → List ℕ
+drive_written bytes = written_in (beginning_of bytes)
+
+-- the end of an input as the refusal that reports it, or none if it is whole
+abbrev pub end_refusal : FeedEnd → Option Refusal
+end_refusal (ends.Bad field place) = Some (Frame field place)
+end_refusal (ends.Cut place) = Some (FrameCut place)
+end_refusal ends.TooLong = Some (TooLong Audit)
+end_refusal _ = None
+
+abbrev pub refusal_in : ℕ → Beginning → Option Refusal
+refusal_in size undivided = if nat_lt most_input_bytes size then Some (TooLong Input) else Some NoSeparator
+refusal_in size long = Some (TooLong Input)
+refusal_in size (faulty fault) = Some (refusal.Scene fault)
+refusal_in size (divided_at scene place frames) = end_refusal ((driving scene place).end frames)
+
+-- the first refusal of an input, if it has one
+abbrev pub drive_refusal : List ℕ → Option Refusal
+drive_refusal bytes = refusal_in (length bytes) (beginning_of bytes)
+
+-- a refusal by what is still missing at the end of an input: more bytes may do without it
+abbrev pub IsMissing : Option Refusal → Type 0
+IsMissing None = Unit {0}
+IsMissing (Some NoSeparator) = Unit {0}
+IsMissing (Some (FrameCut place)) = Unit {0}
+IsMissing _ = ⊥
+
+-- the flows of an input at their end
+abbrev pub flows_in : Beginning → List FlowState
+flows_in (divided_at scene place frames) = ((driving scene place).state frames).ended
+flows_in _ = []
+
+abbrev pub driven_flows : List ℕ → List FlowState
+driven_flows bytes = flows_in (beginning_of bytes)
