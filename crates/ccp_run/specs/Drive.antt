@@ -21,7 +21,7 @@ use Rattle.ccp_run.specs.declared.outcome.ModeOutput.{ModeOutput}
 use Rattle.ccp_run.specs.declared.refusal.Limit.TheVariants.{Audit}
 use Rattle.ccp_run.specs.declared.refusal.Refusal.{Refusal}
 use Rattle.ccp_run.specs.Campaign.{frames_shown}
-use Rattle.ccp_run.specs.DriveInputs.{drive_refusal, drive_written, driven_flows, IsMissing}
+use Rattle.ccp_run.specs.DriveInputs.{drive_refusal, drive_written, driven_flows, IsOpenDrive}
 use Rattle.ccp_run.specs.Rules.{Rules}
 use Rattle.ccp_run.specs.Scenes.{IsScenario}
 
@@ -107,7 +107,7 @@ drive_rules = record {
   is_stream = true;
   is_answered = true;
   answers_before = drive_written;
-  GoesOn = λ bytes. IsMissing (drive_refusal bytes);
+  GoesOn = λ bytes. IsOpenDrive bytes;
   IsInput = IsDriveInput;
   IsMade = IsDriveOutput;
   IsRefused = IsNoDrive;
@@ -121,7 +121,7 @@ drive_text_rules text wire = record {
   is_stream = true;
   is_answered = false;
   answers_before = λ _. [];
-  GoesOn = λ bytes. IsMissing (drive_refusal bytes);
+  GoesOn = λ bytes. IsOpenDrive bytes;
   IsInput = IsDriveInput;
   IsMade = IsDriveTextOutput text wire;
   IsRefused = IsNoDrive;

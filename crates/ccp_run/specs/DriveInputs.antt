@@ -6,7 +6,8 @@ use Rattle.feed_core.specs.declared.ending.FeedEnd.{FeedEnd}
 use Rattle.feed_core.specs.declared.ending.FeedEnd.TheVariants as ends
 use Rattle.feed_core.specs.Answering.{Answering, answering}
 use Rattle.feed_core.specs.FeedBytes.{answer_bytes}
-use Rattle.driven_flow.specs.Front.{divided}
+use Rattle.feed_core.specs.FeedEnds.{MayGoOn}
+use Rattle.driven_flow.specs.Front.{divided, IsOpen}
 use Rattle.driven_flow.specs.PlannedCases.{driven_cases}
 use Rattle.driven_flow.specs.Session.{SessionParts, FlowState, source_view, opening, first_frame, hear, waits}
 use Rattle.scene_members.specs.declared.mode.SceneMode.TheVariants.{Driven}
@@ -81,12 +82,14 @@ refusal_in size (divided_at scene place frames) = end_refusal ((driving scene pl
 abbrev pub drive_refusal : List ℕ → Option Refusal
 drive_refusal bytes = refusal_in (length bytes) (beginning_of bytes)
 
--- a refusal by what is still missing at the end of an input: more bytes may do without it
-abbrev pub IsMissing : Option Refusal → Type 0
-IsMissing None = Unit {0}
-IsMissing (Some NoSeparator) = Unit {0}
-IsMissing (Some (FrameCut place)) = Unit {0}
-IsMissing _ = ⊥
+-- bytes that were taken aren't refused so far: more may follow with which they are an input
+abbrev pub IsOpenAt : List ℕ → Beginning → Type 0
+IsOpenAt bytes undivided = IsOpen bytes
+IsOpenAt bytes (divided_at scene place frames) = MayGoOn ((driving scene place).end frames)
+IsOpenAt bytes _ = ⊥
+
+abbrev pub IsOpenDrive : List ℕ → Type 0
+IsOpenDrive bytes = IsOpenAt bytes (beginning_of bytes)
 
 -- the flows of an input at their end
 abbrev pub flows_in : Beginning → List FlowState

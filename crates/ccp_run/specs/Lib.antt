@@ -8,6 +8,8 @@ pub mod Rules
 pub mod Check
 pub mod Fold
 pub mod FeedRuns
+pub mod DriveInputs
+pub mod Drive
 pub mod Scenes
 pub mod Campaign
 pub mod Soak
