@@ -4,6 +4,7 @@
 mod answer;
 mod case;
 mod driven;
+mod front;
 mod journal;
 mod machine_calls;
 mod parts;
@@ -13,4 +14,5 @@ mod state;
 pub use answer::Answer;
 pub use case::DrivenCase;
 pub use driven::DrivenFlow;
+pub use front::{Front, FrontFault, front_law, read_front};
 pub use programs::{first_bad, is_known};
