@@ -33,10 +33,10 @@ use Rattle.ccp_run.specs.Timeline.{source_plan, planned_by}
 
 -- ---- links
 
-over_prop : {A : Type 0} (P : A → Type 0) → ((x : A) → IsProp (P x)) → (a b : A) (e : a ≡ b) (x : P a) (y : P b) → PathP (λ i. P (e i)) x y
+pub over_prop : {A : Type 0} (P : A → Type 0) → ((x : A) → IsProp (P x)) → (a b : A) (e : a ≡ b) (x : P a) (y : P b) → PathP (λ i. P (e i)) x y
 over_prop P prop a b e x y = to_path_p (λ i. P (e i)) (prop b _ y)
 
-same_link : (a b : LinkCase) → a.trace ≡ b.trace → a.mss ≡ b.mss → a.queue ≡ b.queue → a.delay_us ≡ b.delay_us → a.timeout_us ≡ b.timeout_us
+pub same_link : (a b : LinkCase) → a.trace ≡ b.trace → a.mss ≡ b.mss → a.queue ≡ b.queue → a.delay_us ≡ b.delay_us → a.timeout_us ≡ b.timeout_us
     → a.losses ≡ b.losses → a.mark ≡ b.mark → a ≡ b
 same_link a b trace mss queue delay timeout losses mark = λ i. record {
   trace = trace i;

@@ -15,6 +15,7 @@ pub mod TimelineLemmas
 pub mod AuditLemmas
 mod AcksBackLemmas
 mod AlikeLemmas
+pub mod PlannedLemmas
 mod RowLaw
 mod AuditedLemmas
 pub mod SharedLemmas

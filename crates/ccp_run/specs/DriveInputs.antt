@@ -8,11 +8,11 @@ use Rattle.feed_core.specs.Answering.{Answering, answering}
 use Rattle.feed_core.specs.FeedBytes.{answer_bytes}
 use Rattle.feed_core.specs.FeedEnds.{MayGoOn}
 use Rattle.driven_flow.specs.Front.{divided, IsOpen}
-use Rattle.driven_flow.specs.PlannedCases.{driven_cases}
 use Rattle.driven_flow.specs.Session.{SessionParts, FlowState, source_view, opening, first_frame, hear, waits}
 use Rattle.scene_members.specs.declared.mode.SceneMode.TheVariants.{Driven}
 use Rattle.scenario_json.specs.declared.fault.SceneFault.{SceneFault}
 use Rattle.scenario_json.specs.Scene.{Scene, scene_of}
+use Rattle.ccp_run.specs.PlannedCases.{planned_cases}
 use Rattle.ccp_run.specs.declared.refusal.Limit.TheVariants.{Input, Audit}
 use Rattle.ccp_run.specs.declared.refusal.Refusal.{Refusal}
 use Rattle.ccp_run.specs.declared.refusal.Refusal.TheVariants.{TooLong, NoSeparator, Frame, FrameCut}
@@ -45,7 +45,7 @@ beginning_of bytes = beginning_at (length bytes) (divided bytes)
 
 -- the session of a scenario's flows before the first frame
 abbrev pub begun : Scene → SessionParts
-begun scene = opening (driven_cases 0 scene.cases)
+begun scene = opening (planned_cases 0 scene.cases)
 
 -- the frame that begins the first flow, if there is one
 abbrev pub first_written : Scene → List ℕ

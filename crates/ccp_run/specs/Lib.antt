@@ -8,6 +8,7 @@ pub mod Rules
 pub mod Check
 pub mod Fold
 pub mod FeedRuns
+pub mod PlannedCases
 pub mod DriveInputs
 pub mod Drive
 pub mod Scenes
