@@ -8,9 +8,11 @@ mod journal;
 mod machine_calls;
 mod parts;
 mod programs;
+mod scene;
 mod state;
 
 pub use answer::Answer;
 pub use case::DrivenCase;
 pub use driven::DrivenFlow;
 pub use programs::{first_bad, is_known};
+pub use scene::driven_cases;
