@@ -1,9 +1,10 @@
 -- The definitions of driven_flow, a file each.
 
--- those that contracts of public calls cite: a driven flow's state after its word, and that of an agent's flow
+-- those that contracts of public calls cite: a driven flow's state after its word, that of an agent's flow, the driven
+-- flow's case that a scenario's case says, and the scenario before a stream's frames
 pub mod Driven
 pub mod AgentLaw
--- the scenario that a stream begins with, up to its first line `---`
+pub mod DrivenCases
 pub mod Front
 -- those that only private contracts, invariants and proofs cite
 pub mod DrivenParts

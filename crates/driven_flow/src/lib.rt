@@ -9,6 +9,7 @@ mod journal;
 mod machine_calls;
 mod parts;
 mod programs;
+mod scene;
 mod state;
 
 pub use answer::Answer;
@@ -16,3 +17,4 @@ pub use case::DrivenCase;
 pub use driven::DrivenFlow;
 pub use front::{Front, FrontFault, front_law, read_front};
 pub use programs::{first_bad, is_known};
+pub use scene::driven_cases;

@@ -1,4 +1,5 @@
-//! The public calls: scenarios of live runs, campaigns, rollouts and shared links, and the generated one.
+//! The public calls: scenarios of live runs, campaigns, rollouts, shared links and flows whose agent is outside, and
+//! the generated one.
 ghost use Rattle.std.specs.Prelude.{◌≡◌, ◌≢◌, ◌≤◌, IfOk, IfErr, Ok, Err, length, map};
 ghost use Rattle.std.specs.List.{All};
 ghost use Rattle.serde_json.specs.View.{view};
@@ -36,7 +37,8 @@ use shared_link::SharedCase;
 use std::alloc::Global;
 
 /// Reads a scenario: a JSON object with its programs, traces and cases. When a flow starts is no part of the answer. The
-/// refusals are those of `SceneFault`, the first one in the order of the scenario's parts.
+/// case of a flow whose agent is outside has Reno and its built-in programs, since a case has an agent; the flow never
+/// asks it. The refusals are those of `SceneFault`, the first one in the order of the scenario's parts.
 #[tactic(auto, using(portus_build::proofs::WalkLemmas::walks_exact))]
 pub fn scenario(alloc: Global, text: &[u8], mode: SceneMode) -> Result<Scenario, SceneFault>
     // The result of each program's text, a program or its first refusal, is what the walks over it find.

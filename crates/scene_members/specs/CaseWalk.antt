@@ -3,6 +3,7 @@ use Rattle.std.specs.Prelude.{ℕ, ◌+◌, ◌-◌, nat_lt, if◌then◌else◌
 use Rattle.serde_json.specs.Data.{Data, Items, no_items, item}
 use Rattle.ccp_base.specs.Chaining.{then_do}
 use Rattle.agent_core.specs.declared.kind.Kind.{Kind}
+use Rattle.agent_core.specs.declared.kind.Kind.TheVariants.{Reno}
 use Rattle.agent_core.specs.Kinds.{kind_named, avoidance_of, built_in_count}
 use Rattle.scene_members.specs.declared.fault.MemberFault.{MemberFault}
 use Rattle.scene_members.specs.declared.fault.MemberFault.TheVariants.{Wrong}
@@ -11,7 +12,7 @@ use Rattle.scene_members.specs.declared.key.Key.TheVariants as key
 use Rattle.scene_members.specs.declared.json_place.JsonPlace.{JsonPlace}
 use Rattle.scene_members.specs.declared.json_place.JsonPlace.TheVariants.{Case, In, Item}
 use Rattle.scene_members.specs.declared.mode.SceneMode.{SceneMode}
-use Rattle.scene_members.specs.declared.mode.SceneMode.TheVariants.{Shared}
+use Rattle.scene_members.specs.declared.mode.SceneMode.TheVariants.{Shared, Driven}
 use Rattle.scene_members.specs.declared.plan.LinkNumbers.{LinkNumbers}
 use Rattle.scene_members.specs.declared.plan.AgentNumbers.{AgentNumbers}
 use Rattle.scene_members.specs.declared.plan.LossPlan.{LossPlan}
@@ -28,9 +29,11 @@ abbrev pub case_name : ℕ → Data → Result (List ℕ) MemberFault
 case_name i whole =
     then_do (needed_member (In i key.Name) (member_of key.Name whole)) (λ value. name_in (In i key.Name) value)
 
--- the case's agent
-abbrev pub case_kind : ℕ → Data → Result Kind MemberFault
-case_kind i whole =
+-- the case's agent. A plan has an agent, so that of a flow whose agent is outside has one too: Reno, whatever the
+-- member is. The flow never asks it.
+abbrev pub case_kind : SceneMode → ℕ → Data → Result Kind MemberFault
+case_kind Driven i whole = Ok Reno
+case_kind mode i whole =
     then_do (needed_member (In i key.Agent) (member_of key.Agent whole)) (λ value.
     then_do (text_in (In i key.Agent) value) (λ text. of_kind (In i key.Agent) (kind_named text)))
 
@@ -126,8 +129,11 @@ program_or place names default None = Ok default
 program_or place names default (Some value) =
     then_do (text_in place value) (λ name. of_kind place (program_named name names))
 
-abbrev pub case_programs : List (List ℕ) → Kind → ℕ → Data → Result Programs MemberFault
-case_programs names kind i whole =
+-- the numbers of the case's programs. A plan has programs, so that of a flow whose agent is outside has some too: the
+-- built-in ones of Reno, whatever the members are. The flow runs those that its changes name.
+abbrev pub case_programs : SceneMode → List (List ℕ) → Kind → ℕ → Data → Result Programs MemberFault
+case_programs Driven names kind i whole = Ok (record { ss = 0; ca = avoidance_of Reno })
+case_programs mode names kind i whole =
     then_do (program_or (In i key.Ss) names 0 (member_of key.Ss whole)) (λ ss.
     then_do (program_or (In i key.Ca) names (avoidance_of kind) (member_of key.Ca whole)) (λ ca.
     Ok (record { ss = ss; ca = ca })))
@@ -137,13 +143,13 @@ case_programs names kind i whole =
 abbrev pub case_members : SceneMode → List (List ℕ) → Table → ℕ → Data → Result Plan MemberFault
 case_members mode names traces i whole =
     then_do (case_name i whole) (λ name.
-    then_do (case_kind i whole) (λ kind.
+    then_do (case_kind mode i whole) (λ kind.
     then_do (case_trace traces i whole) (λ trace.
     then_do (case_link_numbers i whole) (λ link_numbers.
     then_do (case_agent_numbers i whole) (λ agent_numbers.
     then_do (case_loss_plan i whole) (λ loss_plan.
     then_do (case_start mode i whole) (λ start_us.
-    then_do (case_programs names kind i whole) (λ programs.
+    then_do (case_programs mode names kind i whole) (λ programs.
     Ok (record {
       name = name;
       kind = kind;

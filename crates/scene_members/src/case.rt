@@ -37,10 +37,15 @@ pub(crate) fn case_name(alloc: Global, i: usize, whole: &Value) -> Result<Name, 
     name(alloc, place, value)
 }
 
-fn case_kind(alloc: Global, i: usize, whole: &Value) -> Result<Kind, MemberFault>
-    ensures ok { IfOk result (λ k. case_kind i (view whole.now) ≡ Ok k) }
-    ensures err { IfErr result (λ e. e ≢ fault.NoMemory → case_kind i (view whole.now) ≡ Err e) }
+/// The agent of a case; that of a flow whose agent is outside is Reno, whatever the member is.
+fn case_kind(alloc: Global, mode: SceneMode, i: usize, whole: &Value) -> Result<Kind, MemberFault>
+    ensures ok { IfOk result (λ k. case_kind mode i (view whole.now) ≡ Ok k) }
+    ensures err { IfErr result (λ e. e ≢ fault.NoMemory → case_kind mode i (view whole.now) ≡ Err e) }
 {
+    // A plan has an agent; a driven flow never asks it.
+    if let SceneMode::Driven = mode {
+        return Ok(Kind::Reno);
+    }
     let place = JsonPlace::In(i, Key::Agent);
     let value = needed_member(alloc, place, whole, Key::Agent)?;
     let text = text(alloc, place, value)?;
@@ -101,13 +106,13 @@ fn members(
         → case_members mode names.now (table_of traces.now.entries) i (view whole.now) ≡ Err e) }
 {
     let name = case_name(alloc, i, whole)?;
-    let kind = case_kind(alloc, i, whole)?;
+    let kind = case_kind(alloc, mode, i, whole)?;
     let trace = case_trace(alloc, traces, i, whole)?;
     let link_numbers = link_numbers(alloc, i, whole)?;
     let agent_numbers = agent_numbers(alloc, i, whole)?;
     let loss_plan = loss_plan(alloc, i, whole)?;
     let start_us = case_start(alloc, mode, i, whole)?;
-    let programs = programs(alloc, names, kind, i, whole)?;
+    let programs = programs(alloc, mode, names, kind, i, whole)?;
     Ok(Plan {
         name,
         kind,

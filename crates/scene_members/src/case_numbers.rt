@@ -100,6 +100,6 @@ pub(crate) fn case_start(
             Key::StartUs,
             0,
         ),
-        SceneMode::Live | SceneMode::Campaign => Ok(0),
+        SceneMode::Live | SceneMode::Campaign | SceneMode::Driven => Ok(0),
     }
 }

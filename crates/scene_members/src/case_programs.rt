@@ -11,6 +11,7 @@ ghost use Rattle.scene_members.specs.declared.fault.MemberFault.TheVariants as f
 use crate::fault::MemberFault;
 use crate::json_place::JsonPlace;
 use crate::key::Key;
+use crate::mode::SceneMode;
 use crate::plan::Programs;
 use crate::values::{member, text};
 use agent_core::{BUILT_INS, Kind};
@@ -67,20 +68,30 @@ fn program_or(
     }
 }
 
-/// The numbers of a case's programs.
+/// The numbers of a case's programs; those of a flow whose agent is outside are the built-in ones of Reno, whatever the
+/// members are.
 pub(crate) fn programs(
     alloc: Global,
+    mode: SceneMode,
     names: &[Name],
     kind: Kind,
     i: usize,
     whole: &Value,
 ) -> Result<Programs, MemberFault>
     requires few { length names.now ≤ most_named_programs }
-    ensures ok { IfOk result (λ p. case_programs names.now kind i (view whole.now) ≡ Ok p) }
+    ensures ok { IfOk result (λ p. case_programs mode names.now kind i (view whole.now) ≡ Ok p) }
     ensures ss_within { IfOk result (λ p. p.ss < length names.now + built_in_count) }
     ensures ca_within { IfOk result (λ p. p.ca < length names.now + built_in_count) }
-    ensures err { IfErr result (λ e. e ≢ fault.NoMemory → case_programs names.now kind i (view whole.now) ≡ Err e) }
+    ensures err { IfErr result (λ e. e ≢ fault.NoMemory
+        → case_programs mode names.now kind i (view whole.now) ≡ Err e) }
 {
+    // A plan has programs; a driven flow runs those that its changes name.
+    if let SceneMode::Driven = mode {
+        return Ok(Programs {
+            ss: 0,
+            ca: Kind::Reno.avoidance(),
+        });
+    }
     let ss = program_or(alloc, JsonPlace::In(i, Key::Ss), names, 0, whole, Key::Ss)?;
     let ca = program_or(
         alloc,

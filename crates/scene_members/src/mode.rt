@@ -11,6 +11,8 @@ pub enum SceneMode {
     Campaign,
     /// Flows over one link: the limits of a live run, and each case may say when its flow starts.
     Shared,
+    /// Flows whose agent is outside: the limits of a live run, and cases have no agent and no programs.
+    Driven,
 }
 
 impl SceneMode {
@@ -19,7 +21,7 @@ impl SceneMode {
         ensures { result ≡ most_cases_of self }
     {
         match self {
-            SceneMode::Live | SceneMode::Shared => 64,
+            SceneMode::Live | SceneMode::Shared | SceneMode::Driven => 64,
             SceneMode::Campaign => 1024,
         }
     }
