@@ -96,13 +96,17 @@ pub record LacksMemoryForFront (source : Stream) : Type 0 where
   pub taken : Takes source.old source.new bytes
   pub few : length bytes ≤ most_input_bytes + most_frame_bytes
 
+-- what each fault of the call says
+abbrev pub IsFrontFault : Stream → FrontFault → Type 0
+IsFrontFault source TooLong = IsTooLong source
+IsFrontFault source NoSeparator = HasNoSeparator source
+IsFrontFault source ReadFailed = FailsToReadFront source
+IsFrontFault source NoMemory = LacksMemoryForFront source
+
 -- what each result of the call says, with the bytes that are left in its rest
 abbrev pub IsFrontRead : Stream → List ℕ → Result Front FrontFault → Type 0
 IsFrontRead source rest (Ok front) = IsDivided source front.text rest front.eaten
-IsFrontRead source rest (Err TooLong) = IsTooLong source
-IsFrontRead source rest (Err NoSeparator) = HasNoSeparator source
-IsFrontRead source rest (Err ReadFailed) = FailsToReadFront source
-IsFrontRead source rest (Err NoMemory) = LacksMemoryForFront source
+IsFrontRead source rest (Err fault) = IsFrontFault source fault
 
 -- ---- laws
 
