@@ -1,13 +1,16 @@
 -- The definitions of feed_core, a file each.
 
--- those that contracts of public calls cite: the answer to a message, an input's answers and end, and the refusals
+-- those that contracts of public calls cite: the answer to a message, an input's answers and end, out of memory, the
+-- bytes that a read adds, and the refusals
 pub mod Feed
 pub mod FeedHolds
 pub mod FeedBytes
+pub mod Answering
 pub mod FeedEnds
+pub mod FeedLacks
+pub mod Rests
 pub mod Refusals
 -- those that only private contracts, invariants and proofs cite
-pub mod Rests
 pub mod FeedStops
 pub mod FeedTurns
 pub mod FeedLast

@@ -1,9 +1,7 @@
-//! Answers one frame of a feed and writes the answer.
+//! Answers one frame of an input and writes the answer.
 
 ghost use Rattle.std.specs.Prelude.{◌≡◌, ◌+◌, ◌<◌, ◌≤◌, length, OnOk, IfErr, Err};
 ghost use Rattle.ccp_base.specs.Outside.{Rose, Appends, AppendsPrefix};
-ghost use Rattle.ccp_base.specs.Limits.{most_messages};
-ghost use Rattle.feed_core.specs.Feed.{answer_message, TakesMemory};
 ghost use Rattle.feed_core.specs.FeedHolds.{longest_answer, HasShortFrame};
 ghost use Rattle.ccp_messages.specs.Messages.{Meets, frame_bytes};
 ghost use Rattle.feed_core.specs.FeedBytes.{answer_bytes, answer_to};
@@ -11,8 +9,8 @@ ghost use Rattle.feed_core.specs.FeedEnds.{AreHandedOn};
 ghost use Rattle.feed_core.specs.FeedStops.{StopsAnswer};
 
 use crate::ack_frame::AckFrame;
+use crate::answerer::Answerer;
 use crate::duplex::{Duplex, hand_over};
-use crate::feed::Feed;
 use ccp_base::NoMemory;
 use ccp_messages::{Message, encode_into};
 use reply_frames::Version;
@@ -40,50 +38,51 @@ impl From<NoMemory> for Unanswered {
     }
 }
 
-/// Answers a message, and writes the answer and hands it on. Only a Create of a flow that doesn't exist takes memory.
-pub fn answer<D: Duplex>(
+/// Answers a message, and writes the answer and hands it on.
+pub fn answer<A: Answerer, D: Duplex>(
     alloc: Global,
-    feed: &mut Feed,
+    answerer: &mut A,
     message: Message,
     version: Version,
     duplex: &mut D,
 ) -> Result<(), Unanswered>
-    requires few { feed.old.messages < most_messages }
-    ensures state { OnOk result (feed.new ≡ (answer_message feed.old message version).1) }
-    ensures one { OnOk result (feed.new.messages ≡ feed.old.messages + 1) }
-    ensures written { OnOk result
-        (Appends (D.written duplex.old) (D.written duplex.new) (answer_to feed.old message version)) }
-    ensures handed { OnOk result (AreHandedOn (answer_to feed.old message version) (D.is_finished duplex.new)) }
+    requires room { 0 < A.room answerer.old }
+    ensures state { OnOk result (answerer.new ≡ (A.answer_of answerer.old message version).1) }
+    ensures one { OnOk result (A.room answerer.old ≤ A.room answerer.new + 1) }
+    ensures written { OnOk result (Appends (D.written duplex.old) (D.written duplex.new)
+        (answer_to A.answer_of answerer.old message version)) }
+    ensures handed { OnOk result
+        (AreHandedOn (answer_to A.answer_of answerer.old message version) (D.is_finished duplex.new)) }
     ensures kept { OnOk result (D.is_finished duplex.old → D.is_finished duplex.new) }
     ensures follows { D.Follows duplex.old duplex.new }
     ensures remaining { D.remaining duplex.new ≡ D.remaining duplex.old }
     ensures read_faults { D.read_faults duplex.new ≡ D.read_faults duplex.old }
     ensures counted { D.write_faults duplex.old ≤ D.write_faults duplex.new }
     ensures err { IfErr result (StopsAnswer (D.write_faults duplex.old) (D.write_faults duplex.new)
-        (D.written duplex.old) (D.written duplex.new) (answer_to feed.old message version)) }
-    ensures memory { result ≡ Err Unanswered.NoMemory → TakesMemory feed.old message }
+        (D.written duplex.old) (D.written duplex.new) (answer_to A.answer_of answerer.old message version)) }
+    ensures memory { result ≡ Err Unanswered.NoMemory → A.Takes answerer.old message }
     ensures untouched { result ≡ Err Unanswered.NoMemory → duplex.new ≡ duplex.old }
 {
-    match feed.frame(alloc, message, version)? {
+    match answerer.answer(alloc, message, version)? {
         None => Ok(()),
         Some((message, version)) => write(duplex, &message, version),
     }
 }
 
 /// Answers an acknowledgement, and writes the answer, if there is one, and hands it on.
-pub fn answer_ack<D: Duplex>(
-    feed: &mut Feed,
+pub fn answer_ack<A: Answerer, D: Duplex>(
+    answerer: &mut A,
     frame: &AckFrame,
     duplex: &mut D,
 ) -> Result<(), Unanswered>
-    requires few { feed.old.messages < most_messages }
-    ensures state { OnOk result
-        (feed.new ≡ (answer_message feed.old (Message.Ack frame.now.flow frame.now.ack) frame.now.version).1) }
-    ensures one { OnOk result (feed.new.messages ≡ feed.old.messages + 1) }
+    requires room { 0 < A.room answerer.old }
+    ensures state { OnOk result (answerer.new
+        ≡ (A.answer_of answerer.old (Message.Ack frame.now.flow frame.now.ack) frame.now.version).1) }
+    ensures one { OnOk result (A.room answerer.old ≤ A.room answerer.new + 1) }
     ensures written { OnOk result (Appends (D.written duplex.old) (D.written duplex.new)
-        (answer_to feed.old (Message.Ack frame.now.flow frame.now.ack) frame.now.version)) }
+        (answer_to A.answer_of answerer.old (Message.Ack frame.now.flow frame.now.ack) frame.now.version)) }
     ensures handed { OnOk result
-        (AreHandedOn (answer_to feed.old (Message.Ack frame.now.flow frame.now.ack) frame.now.version)
+        (AreHandedOn (answer_to A.answer_of answerer.old (Message.Ack frame.now.flow frame.now.ack) frame.now.version)
         (D.is_finished duplex.new)) }
     ensures kept { OnOk result (D.is_finished duplex.old → D.is_finished duplex.new) }
     ensures follows { D.Follows duplex.old duplex.new }
@@ -92,11 +91,11 @@ pub fn answer_ack<D: Duplex>(
     ensures counted { D.write_faults duplex.old ≤ D.write_faults duplex.new }
     ensures err { IfErr result (StopsAnswer (D.write_faults duplex.old) (D.write_faults duplex.new)
         (D.written duplex.old) (D.written duplex.new)
-        (answer_to feed.old (Message.Ack frame.now.flow frame.now.ack) frame.now.version)) }
+        (answer_to A.answer_of answerer.old (Message.Ack frame.now.flow frame.now.ack) frame.now.version)) }
     ensures failed { IfErr result (λ why. why ≡ Unanswered.Write) }
 {
     let mut answer = None;
-    feed.acknowledge(frame.version, frame.flow, &frame.ack, &mut answer);
+    answerer.acknowledge(frame.version, frame.flow, &frame.ack, &mut answer);
     let done = write_answer(duplex, &answer);
     drop(answer);
     done

@@ -1,9 +1,13 @@
 //! The loop that reads frames and writes answers.
 
-ghost use Rattle.std.specs.Prelude.{◌≡◌, ◌≤◌};
-ghost use Rattle.feed_core.specs.FeedEnds.{stream, IsFed, AllowsAnswered};
+ghost use Rattle.std.specs.Prelude.{◌≡◌, ◌+◌, ◌-◌, ◌≤◌, [], length};
+ghost use Rattle.feed_core.specs.FeedBytes.{frames_from};
+ghost use Rattle.feed_core.specs.Answering.{after, answering, feeding};
+ghost use Rattle.feed_core.specs.FeedEnds.{stream, AllowsAnswered, IsFed, StaysFinished};
+ghost use Rattle.feed_core.specs.FeedLacks.{AnswerLacksAt, FeedLacksAt};
 ghost use Rattle.feed_core.specs.FeedLast.{IsLast};
 
+use crate::answerer::Answerer;
 use crate::duplex::{Duplex, Pair};
 use crate::ending::FeedEnd;
 use crate::feed::Feed;
@@ -22,33 +26,67 @@ const LIMIT: usize = 1048576;
 /// itself, for the code of an Install, or for the flow of a Create; then the answers to all frames before it are
 /// written, and at most a frame's bytes were read beyond them.
 pub fn answer_frames<D: Duplex>(alloc: Global, duplex: &mut D) -> FeedEnd
-    requires allowed { AllowsAnswered D.remaining D.written D.is_finished D.Follows D.MayRead duplex.old }
+    requires allowed { AllowsAnswered feeding D.remaining D.written D.is_finished D.Follows D.MayRead duplex.old }
     ensures follows { D.Follows duplex.old duplex.new }
     ensures reads { D.read_faults duplex.old ≤ D.read_faults duplex.new }
     ensures writes { D.write_faults duplex.old ≤ D.write_faults duplex.new }
-    ensures fed { IsFed
+    ensures fed { IsFed feeding [] FeedLacksAt
         (stream (D.remaining duplex.old) (D.remaining duplex.new)
         (D.read_faults duplex.old) (D.read_faults duplex.new))
         (stream (D.written duplex.old) (D.written duplex.new)
         (D.write_faults duplex.old) (D.write_faults duplex.new))
-        (D.is_finished duplex.new) result }
+        (D.is_finished duplex.new) tt result }
 {
     let Ok(mut feed) = Feed::new(alloc) else {
         return FeedEnd::NoMemory;
     };
     let mut rest = Rest::new();
-    let mut eaten = 0;
+    answer_from(alloc, &mut feed, &mut rest, 0, LIMIT, duplex)
+}
+
+/// Answers the frames that follow the first `eaten` bytes of an input of at most `limit` bytes, as `answer_frames` does;
+/// the first bytes of these frames, which were read before, are in `rest`. It reads only where `allowed` lets it: once
+/// the answers to all frames of `rest` and of what it took are handed on. The places in its result are those in the
+/// input. If the input ends where the answerer needs another message, it is cut there. Memory can run out only for the
+/// code of an Install, or where the answerer takes it. Afterwards the answerer has answered all whole frames, unless a
+/// write failed, and `rest` has no meaning.
+pub fn answer_from<A: Answerer, D: Duplex>(
+    alloc: Global,
+    answerer: &mut A,
+    rest: &mut Rest,
+    eaten: usize,
+    limit: usize,
+    duplex: &mut D,
+) -> FeedEnd
+    requires room { limit - eaten ≤ A.room answerer.old }
+    requires within { eaten + length rest.old ≤ limit }
+    requires allowed { AllowsAnswered
+        (after rest.old (answering A.answer_of A.is_waiting limit eaten answerer.old))
+        D.remaining D.written D.is_finished D.Follows D.MayRead duplex.old }
+    ensures follows { D.Follows duplex.old duplex.new }
+    ensures reads { D.read_faults duplex.old ≤ D.read_faults duplex.new }
+    ensures writes { D.write_faults duplex.old ≤ D.write_faults duplex.new }
+    ensures kept { StaysFinished (D.is_finished duplex.old) (D.is_finished duplex.new) result }
+    ensures fed { IsFed (answering A.answer_of A.is_waiting limit eaten answerer.old) rest.old
+        (AnswerLacksAt A.answer_of A.Takes eaten (frames_from A.answer_of limit eaten answerer.old))
+        (stream (D.remaining duplex.old) (D.remaining duplex.new)
+        (D.read_faults duplex.old) (D.read_faults duplex.new))
+        (stream (D.written duplex.old) (D.written duplex.new)
+        (D.write_faults duplex.old) (D.write_faults duplex.new))
+        (D.is_finished duplex.new) answerer.new result }
+{
+    let mut eaten = eaten;
     loop {
-        match next_frame(alloc, &mut feed, rest.as_slice(), duplex) {
+        match next_frame(alloc, answerer, rest.as_slice(), duplex) {
             Turn::Answered(used) => {
                 rest.drop_front(used);
                 eaten += used;
             }
             Turn::Part => {
                 let left = rest.len();
-                match rest.read(duplex, LIMIT - eaten - left) {
+                match rest.read(duplex, limit - eaten - left) {
                     Piece::Bytes(_) => {}
-                    Piece::End => return at_end(duplex, eaten, left),
+                    Piece::End => return at_end(duplex, answerer.waits(), eaten, left),
                     Piece::Further => return FeedEnd::TooLong,
                     Piece::Failed => return FeedEnd::ReadFailed,
                 }
@@ -64,26 +102,27 @@ pub fn answer_frames<D: Duplex>(alloc: Global, duplex: &mut D) -> FeedEnd
 pub fn feed<S: Source, K: Sink>(alloc: Global, source: &mut S, sink: &mut K) -> FeedEnd
     ensures reads { S.faults source.old ≤ S.faults source.new }
     ensures writes { K.faults sink.old ≤ K.faults sink.new }
-    ensures fed { IsFed
+    ensures fed { IsFed feeding [] FeedLacksAt
         (stream (S.remaining source.old) (S.remaining source.new) (S.faults source.old) (S.faults source.new))
         (stream (K.written sink.old) (K.written sink.new) (K.faults sink.old) (K.faults sink.new))
-        (K.is_finished sink.new) result }
+        (K.is_finished sink.new) tt result }
 {
     let mut pair = Pair { source, sink };
     answer_frames(alloc, &mut pair)
 }
 
-/// The end of an input that was read completely: `left` of its bytes, from `place` on, are in no whole frame.
-fn at_end<D: Duplex>(duplex: &mut D, place: usize, left: usize) -> FeedEnd
+/// The end of an input that was read completely: `left` of its bytes, from `place` on, are in no whole frame, and
+/// another message is needed if `waits`.
+fn at_end<D: Duplex>(duplex: &mut D, waits: bool, place: usize, left: usize) -> FeedEnd
     ensures follows { D.Follows duplex.old duplex.new }
     ensures remaining { D.remaining duplex.new ≡ D.remaining duplex.old }
     ensures read_faults { D.read_faults duplex.new ≡ D.read_faults duplex.old }
     ensures counted { D.write_faults duplex.old ≤ D.write_faults duplex.new }
     ensures kept { D.written duplex.new ≡ D.written duplex.old }
     ensures last { IsLast (D.write_faults duplex.old) (D.write_faults duplex.new)
-        (D.is_finished duplex.old) (D.is_finished duplex.new) place left result }
+        (D.is_finished duplex.old) (D.is_finished duplex.new) waits place left result }
 {
-    if left > 0 {
+    if left > 0 || waits {
         return FeedEnd::Cut(place as u64);
     }
     match duplex.finish() {

@@ -1,8 +1,8 @@
-//! How a feed ends.
+//! How an input of frames ends.
 
 use reply_frames::BadKind;
 
-/// How a feed ends.
+/// How an input of frames ends.
 #[derive(Clone, Copy, PartialEq, Eq)]
 pub enum FeedEnd {
     /// The source was read to its end, and its frames are whole.

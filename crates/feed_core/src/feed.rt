@@ -1,10 +1,11 @@
 //! A datapath over a stream of frames: what it keeps, and its answer to the next message.
 
-ghost use Rattle.std.specs.Prelude.{◌≡◌, ◌+◌, ◌<◌, None, IfOk, OnOk, OnErr};
+ghost use Rattle.std.specs.Prelude.{◌≡◌, ◌+◌, ◌-◌, ◌<◌, false, IfOk, OnOk, OnErr};
 ghost use Rattle.ccp_base.specs.Limits.{most_messages};
 ghost use Rattle.feed_core.specs.Feed.{no_flows, answer_message, TakesMemory};
 ghost use Rattle.feed_core.specs.FeedHolds.{HasShortFrame};
 
+use crate::answerer::Answerer;
 use crate::tables::Tables;
 use ccp_base::{Ack, NoMemory};
 use ccp_messages::Message;
@@ -68,22 +69,37 @@ impl Feed {
     {
         self.tables.frame(alloc, message, version)
     }
+}
 
-    /// Puts the answer to the next message, an acknowledgement, into `answer`, if it has one.
-    pub(crate) fn acknowledge(
+impl Answerer for Feed {
+    ghost answer_of = { answer_message };
+
+    ghost is_waiting = { λ feed. false };
+
+    ghost room = { λ feed. most_messages - feed.messages };
+
+    ghost Takes = { TakesMemory };
+
+    fn answer(
+        &mut self,
+        alloc: Global,
+        message: Message,
+        version: Version,
+    ) -> Result<Option<(Message, Version)>, NoMemory> {
+        self.frame(alloc, message, version)
+    }
+
+    fn acknowledge(
         &mut self,
         version: Version,
         flow: u32,
         ack: &Ack,
         answer: &mut Option<(Message, Version)>,
-    )
-        requires few { self.old.messages < most_messages }
-        requires none { answer.old ≡ None }
-        ensures answered { (answer.new, self.new)
-            ≡ answer_message self.old (Message.Ack flow ack.entry.now) version }
-        ensures counted { self.new.messages ≡ self.old.messages + 1 }
-        ensures frame { HasShortFrame answer.new }
-    {
+    ) {
         self.tables.acknowledge(version, flow, ack, answer);
+    }
+
+    fn waits(&self) -> bool {
+        false
     }
 }

@@ -2,6 +2,7 @@
 #![tactic(auto)]
 
 mod ack_frame;
+mod answerer;
 mod answering;
 pub mod calls;
 mod duplex;
@@ -14,8 +15,11 @@ mod rest;
 mod tables;
 mod turn;
 
-pub use duplex::Duplex;
+pub use answerer::Answerer;
+pub use duplex::{Duplex, hand_over};
 pub use ending::FeedEnd;
 pub use feed::Feed;
 pub use flow::{Epoch, Flow};
 pub use laws::refusals_law;
+pub use piece::Piece;
+pub use rest::Rest;

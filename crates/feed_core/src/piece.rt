@@ -1,11 +1,11 @@
-//! The result of a read of a source.
+//! The result of a read of an input.
 
 /// The result of a read.
 #[derive(Clone, Copy)]
 pub enum Piece {
     /// This number of bytes, at least one.
     Bytes(usize),
-    /// The source has no further byte.
+    /// The input has no further byte.
     End,
     /// There is a further byte, beyond the limit.
     Further,

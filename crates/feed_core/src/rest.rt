@@ -1,29 +1,40 @@
-//! The bytes of a feed's input that no frame has taken yet.
+//! The bytes of an input that nothing has taken yet.
 
-ghost use Rattle.std.specs.Prelude.{◌≡◌, ◌+◌, ◌-◌, ◌<◌, ◌≤◌, [], ◌++◌, length, drop};
+ghost use Rattle.std.specs.Prelude.{◌≡◌, ◌-◌, ◌<◌, ◌≤◌, [], length, take, drop};
 ghost use Rattle.ccp_base.specs.Limits.{most_frame_bytes};
 ghost use Rattle.feed_core.specs.Rests.{between, IsPiece};
 
 use crate::duplex::Duplex;
 use crate::piece::Piece;
+use std::marker::Model;
 
 /// The bytes of the longest frame.
 const LONGEST: usize = 8596;
 
-/// The bytes that were read and that no whole frame has taken, held in place.
-#[derive(Clone, Copy)]
+/// The bytes that were read of an input and that nothing has taken yet, at most 8,596.
+#[derive(Drop)]
 pub struct Rest {
     bytes: [u8; LONGEST],
     start: usize,
     end: usize,
-    ghost ordered: { start ≤ end },
-    ghost within: { end ≤ most_frame_bytes },
+}
+
+impl Model for Rest {
+    ghost use Rattle.std.specs.Prelude.{ℕ, ◌≤◌, List};
+    ghost use Rattle.ccp_base.specs.Limits.{most_frame_bytes};
+    ghost use Rattle.feed_core.specs.Rests.{between};
+
+    ghost Value = { List ℕ };
+
+    ghost view = { λ rest. between rest.bytes rest.start rest.end };
+
+    ghost invariant = { λ rest. (rest.start ≤ rest.end) × (rest.end ≤ most_frame_bytes) };
 }
 
 impl Rest {
     /// No bytes.
     pub fn new() -> Self
-        ensures { between result.bytes result.start result.end ≡ [] }
+        ensures { result ≡ [] }
     {
         Rest {
             bytes: [0; LONGEST],
@@ -34,42 +45,30 @@ impl Rest {
 
     /// How many bytes they are.
     pub fn len(&self) -> usize
-        ensures { result ≡ length (between self.now.bytes self.now.start self.now.end) }
+        ensures { result ≡ length self.now }
     {
         self.end - self.start
     }
 
     /// The bytes.
     pub fn as_slice(&self) -> &[u8]
-        ensures { result.now ≡ between self.now.bytes self.now.start self.now.end }
+        ensures bytes { result.now ≡ self.now }
+        ensures few { length self.now ≤ most_frame_bytes }
     {
         &self.bytes[self.start..self.end]
     }
 
     /// Takes `count` bytes off the front.
     pub fn drop_front(&mut self, count: usize)
-        requires { count ≤ length (between self.old.bytes self.old.start self.old.end) }
-        ensures { between self.new.bytes self.new.start self.new.end
-            ≡ drop count (between self.old.bytes self.old.start self.old.end) }
+        requires { count ≤ length self.old }
+        ensures { self.new ≡ drop count self.old }
     {
         self.start += count;
     }
 
-    /// Moves the bytes to the front of their place.
-    fn settle(&mut self)
-        ensures same { between self.new.bytes self.new.start self.new.end
-            ≡ between self.old.bytes self.old.start self.old.end }
-        ensures start { self.new.start ≡ 0 }
-    {
-        let len = self.end - self.start;
-        self.bytes.copy_within(self.start..self.end, 0);
-        self.start = 0;
-        self.end = len;
-    }
-
     /// Reads a piece of at most `room` bytes and appends it. If `room` is 0 it asks for one byte, and keeps none.
     pub fn read<D: Duplex>(&mut self, duplex: &mut D, room: usize) -> Piece
-        requires few { length (between self.old.bytes self.old.start self.old.end) < most_frame_bytes }
+        requires few { length self.old < most_frame_bytes }
         requires allowed { D.MayRead duplex.old }
         ensures follows { D.Follows duplex.old duplex.new }
         ensures written { D.written duplex.new ≡ D.written duplex.old }
@@ -77,10 +76,11 @@ impl Rest {
         ensures finished { D.is_finished duplex.old → D.is_finished duplex.new }
         ensures counted { D.read_faults duplex.old ≤ D.read_faults duplex.new }
         ensures came { IsPiece (D.read_faults duplex.old) (D.read_faults duplex.new) (D.remaining duplex.old)
-            (D.remaining duplex.new) room (between self.old.bytes self.old.start self.old.end)
-            (between self.new.bytes self.new.start self.new.end) result }
+            (D.remaining duplex.new) room self.old self.new result }
     {
-        self.settle();
+        settle(&mut self.bytes, self.start, self.end);
+        self.end -= self.start;
+        self.start = 0;
         let asked = room.max(1).min(LONGEST - self.end);
         let to = self.end + asked;
         match duplex.read(&mut self.bytes[self.end..to]) {
@@ -93,4 +93,13 @@ impl Rest {
             }
         }
     }
+}
+
+/// Moves the bytes from `start` up to `end` to the front.
+fn settle(bytes: &mut [u8; LONGEST], start: usize, end: usize)
+    requires ordered { start ≤ end }
+    requires within { end ≤ most_frame_bytes }
+    ensures { between bytes.new 0 (end - start) ≡ between bytes.old start end }
+{
+    bytes.copy_within(start..end, 0);
 }

@@ -1,13 +1,12 @@
-//! The next frame of a feed, answered.
+//! The next frame of an input, answered.
 
-ghost use Rattle.std.specs.Prelude.{◌≡◌, ◌+◌, ◌≤◌, length};
-ghost use Rattle.ccp_base.specs.Limits.{most_messages};
+ghost use Rattle.std.specs.Prelude.{◌≡◌, ◌≤◌, length};
 ghost use Rattle.feed_core.specs.FeedTurns.{without_frame, IsTurn, KeepsFinished};
 
 use crate::ack_frame::ack_frame;
+use crate::answerer::Answerer;
 use crate::answering::{Unanswered, answer, answer_ack};
 use crate::duplex::Duplex;
-use crate::feed::Feed;
 use ccp_messages::{BadKind, DecodeFault, decode};
 use std::alloc::Global;
 
@@ -37,39 +36,41 @@ fn without_frame(fault: DecodeFault) -> Turn
 }
 
 /// Answers the frame that the bytes begin with.
-pub fn next_frame<D: Duplex>(alloc: Global, feed: &mut Feed, bytes: &[u8], duplex: &mut D) -> Turn
-    requires few { feed.old.messages + length bytes.now ≤ most_messages }
+pub fn next_frame<A: Answerer, D: Duplex>(alloc: Global, answerer: &mut A, bytes: &[u8], duplex: &mut D) -> Turn
+    requires room { length bytes.now ≤ A.room answerer.old }
     ensures follows { D.Follows duplex.old duplex.new }
     ensures remaining { D.remaining duplex.new ≡ D.remaining duplex.old }
     ensures read_faults { D.read_faults duplex.new ≡ D.read_faults duplex.old }
     ensures counted { D.write_faults duplex.old ≤ D.write_faults duplex.new }
-    ensures turn { IsTurn (D.write_faults duplex.old) (D.write_faults duplex.new) (D.is_finished duplex.new)
-        (D.written duplex.old) (D.written duplex.new) feed.old feed.new bytes.now result }
+    ensures turn { IsTurn A.answer_of A.room A.Takes (D.write_faults duplex.old) (D.write_faults duplex.new)
+        (D.is_finished duplex.new) (D.written duplex.old) (D.written duplex.new) answerer.old answerer.new bytes.now
+        result }
     ensures kept { KeepsFinished (D.is_finished duplex.old) (D.is_finished duplex.new) result }
 {
     match ack_frame(bytes) {
-        Some(frame) => match answer_ack(feed, &frame, duplex) {
+        Some(frame) => match answer_ack(answerer, &frame, duplex) {
             Ok(()) => Turn::Answered(frame.used),
             Err(_) => Turn::WriteFailed,
         },
-        None => other_frame(alloc, feed, bytes, duplex),
+        None => other_frame(alloc, answerer, bytes, duplex),
     }
 }
 
 /// Answers the frame of any kind that the bytes begin with.
 #[inline(never)]
-fn other_frame<D: Duplex>(alloc: Global, feed: &mut Feed, bytes: &[u8], duplex: &mut D) -> Turn
-    requires few { feed.old.messages + length bytes.now ≤ most_messages }
+fn other_frame<A: Answerer, D: Duplex>(alloc: Global, answerer: &mut A, bytes: &[u8], duplex: &mut D) -> Turn
+    requires room { length bytes.now ≤ A.room answerer.old }
     ensures follows { D.Follows duplex.old duplex.new }
     ensures remaining { D.remaining duplex.new ≡ D.remaining duplex.old }
     ensures read_faults { D.read_faults duplex.new ≡ D.read_faults duplex.old }
     ensures counted { D.write_faults duplex.old ≤ D.write_faults duplex.new }
-    ensures turn { IsTurn (D.write_faults duplex.old) (D.write_faults duplex.new) (D.is_finished duplex.new)
-        (D.written duplex.old) (D.written duplex.new) feed.old feed.new bytes.now result }
+    ensures turn { IsTurn A.answer_of A.room A.Takes (D.write_faults duplex.old) (D.write_faults duplex.new)
+        (D.is_finished duplex.new) (D.written duplex.old) (D.written duplex.new) answerer.old answerer.new bytes.now
+        result }
     ensures kept { KeepsFinished (D.is_finished duplex.old) (D.is_finished duplex.new) result }
 {
     match decode(alloc, bytes) {
-        Ok((message, version, used)) => match answer(alloc, feed, message, version, duplex) {
+        Ok((message, version, used)) => match answer(alloc, answerer, message, version, duplex) {
             Ok(()) => Turn::Answered(used),
             Err(Unanswered::Write) => Turn::WriteFailed,
             Err(Unanswered::NoMemory) => Turn::NoMemory,
