@@ -29,19 +29,19 @@ front-twice first next (Some p) = ap (λ text. Some (text, p.1)) (sym (append_as
 -- ---- one byte
 
 -- what a line feed does after a line
-abbrev fed_line : List ℕ → List ℕ → List ℕ → Parted
+abbrev pub fed_line : List ℕ → List ℕ → List ℕ → Parted
 fed_line line feed rest = if is_separator line then Some ([], rest) else with_front (line ++ feed) (divided_from [] rest)
 
-at-feed : (line : List ℕ) (byte : ℕ) (rest : List ℕ) → separates LineFeed byte ≡ true → divided_from line (byte ∷ rest) ≡ fed_line line (byte ∷ []) rest
+pub at-feed : (line : List ℕ) (byte : ℕ) (rest : List ℕ) → separates LineFeed byte ≡ true → divided_from line (byte ∷ rest) ≡ fed_line line (byte ∷ []) rest
 at-feed line byte rest is = ap (λ b. cond b (fed_line line (byte ∷ []) rest) (divided_from (line ++ byte ∷ []) rest)) is
 
-at-other : (line : List ℕ) (byte : ℕ) (rest : List ℕ) → separates LineFeed byte ≡ false → divided_from line (byte ∷ rest) ≡ divided_from (line ++ byte ∷ []) rest
+pub at-other : (line : List ℕ) (byte : ℕ) (rest : List ℕ) → separates LineFeed byte ≡ false → divided_from line (byte ∷ rest) ≡ divided_from (line ++ byte ∷ []) rest
 at-other line byte rest is = ap (λ b. cond b (fed_line line (byte ∷ []) rest) (divided_from (line ++ byte ∷ []) rest)) is
 
-fed-true : (line feed rest : List ℕ) → is_separator line ≡ true → fed_line line feed rest ≡ Some ([], rest)
+pub fed-true : (line feed rest : List ℕ) → is_separator line ≡ true → fed_line line feed rest ≡ Some ([], rest)
 fed-true line feed rest is = ap (λ b. cond b (Some ([], rest)) (with_front (line ++ feed) (divided_from [] rest))) is
 
-fed-false : (line feed rest : List ℕ) → is_separator line ≡ false → fed_line line feed rest ≡ with_front (line ++ feed) (divided_from [] rest)
+pub fed-false : (line feed rest : List ℕ) → is_separator line ≡ false → fed_line line feed rest ≡ with_front (line ++ feed) (divided_from [] rest)
 fed-false line feed rest is = ap (λ b. cond b (Some ([], rest)) (with_front (line ++ feed) (divided_from [] rest))) is
 
 -- ---- bytes up to a line feed
@@ -178,16 +178,16 @@ without-return (byte ∷ next ∷ rest) = go (without-return (next ∷ rest))
     go (inl same) = inl (ap (λ l. byte ∷ l) same)
     go (inr ends) = inr (ap (λ l. byte ∷ l) ends)
 
--- a line `---` is a front of the longest one
-separator-front : (line : List ℕ) → is_separator line ≡ true → (longest_separator ≡ line) ⊎ (longest_separator ≡ line ++ 13 ∷ [])
-separator-front line sep = go (without-return line)
+-- a line `---`
+pub separator-line : (line : List ℕ) → is_separator line ≡ true → (line ≡ 45 ∷ 45 ∷ 45 ∷ []) ⊎ (line ≡ longest_separator)
+separator-line line sep = go (without-return line)
   where
     marks : without_last 13 line ≡ 45 ∷ 45 ∷ 45 ∷ []
     marks = (bytes_eq-Decides (without_last 13 line) (45 ∷ 45 ∷ 45 ∷ [])).0 sep
 
-    go : (without_last 13 line ≡ line) ⊎ (line ≡ without_last 13 line ++ 13 ∷ []) → (longest_separator ≡ line) ⊎ (longest_separator ≡ line ++ 13 ∷ [])
-    go (inl same) = inr (ap (λ l. l ++ 13 ∷ []) (sym marks ∙ same))
-    go (inr ends) = inl (sym (ends ∙ ap (λ l. l ++ 13 ∷ []) marks))
+    go : (without_last 13 line ≡ line) ⊎ (line ≡ without_last 13 line ++ 13 ∷ []) → (line ≡ 45 ∷ 45 ∷ 45 ∷ []) ⊎ (line ≡ longest_separator)
+    go (inl same) = inl (sym same ∙ marks)
+    go (inr ends) = inr (ends ∙ ap (λ l. l ++ 13 ∷ []) marks)
 
 -- the longest line `---` begins with bytes that it may begin with
 pub may-separate : (bytes longest : List ℕ) (may : Bool) → longest ≡ longest_separator → may ≡ starts_with eqb longest bytes
@@ -209,13 +209,13 @@ may-not bytes longest false long is = λ more. go more (is_separator (bytes ++ m
     front : (rest : List ℕ) → longest_separator ≡ bytes ++ rest → ⊥
     front rest begins = let is_so : false ≡ true = (starts_is Decides-eqb longest_separator bytes false (is ∙ ap (λ l. starts_with eqb l bytes) long)).1 rest begins in cc
 
-    by : (more : List ℕ) → (longest_separator ≡ bytes ++ more) ⊎ (longest_separator ≡ (bytes ++ more) ++ 13 ∷ []) → ⊥
-    by more (inl begins) = front more begins
-    by more (inr begins) = front (more ++ 13 ∷ []) (begins ∙ append_assoc bytes more (13 ∷ []))
+    by : (more : List ℕ) → (bytes ++ more ≡ 45 ∷ 45 ∷ 45 ∷ []) ⊎ (bytes ++ more ≡ longest_separator) → ⊥
+    by more (inl short) = front (more ++ 13 ∷ []) (ap (λ l. l ++ 13 ∷ []) (sym short) ∙ append_assoc bytes more (13 ∷ []))
+    by more (inr long) = front more (sym long)
 
     go : (more : List ℕ) (b : Bool) → is_separator (bytes ++ more) ≡ b → is_separator (bytes ++ more) ≡ false
     go more false sep = sep
-    go more true sep = absurd (by more (separator-front (bytes ++ more) sep))
+    go more true sep = absurd (by more (separator-line (bytes ++ more) sep))
 
 -- ---- the whole text
 
@@ -240,7 +240,7 @@ longer-text line (byte ∷ bytes) text rest other is = go (longer-text (line ++ 
         omega (arith, more, length-append line (byte ∷ []))
 
 -- what follows is after the rest
-goes-further : (line bytes more text rest : List ℕ) → divided_from line bytes ≡ Some (text, rest) → divided_from line (bytes ++ more) ≡ Some (text, rest ++ more)
+pub goes-further : (line bytes more text rest : List ℕ) → divided_from line bytes ≡ Some (text, rest) → divided_from line (bytes ++ more) ≡ Some (text, rest ++ more)
 goes-further line [] more text rest is = absurd (none-some (text, rest) is)
 goes-further line (byte ∷ bytes) more text rest is = go (goes-further [] bytes more) (goes-further (line ++ byte ∷ []) bytes more text rest) (separates LineFeed byte) refl
   where

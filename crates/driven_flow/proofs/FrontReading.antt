@@ -1,11 +1,9 @@
 -- How far the reading of a scenario's text has come, and how it ends.
-use Rattle.std.proofs.Common.{◌≡◌, ◌⊎◌, inl, inr, ℕ, ◌+◌, ◌-◌, ◌<◌, ◌≤◌, Bool, true, false, Some, None, Result, Err, List, [], ◌∷◌, ◌++◌, length, take, drop, refl, ap, sym, subst, ◌∙◌, arith, nat_lt, ◌^◌, append_assoc, append-nil, length-append, length-drop, length-take, take-append-drop}
+use Rattle.std.proofs.Common.{rules, ◌≡◌, ◌⊎◌, inl, inr, ℕ, ◌+◌, ◌-◌, ◌<◌, ◌≤◌, Bool, true, false, Some, None, Result, Err, List, [], ◌∷◌, ◌++◌, length, take, drop, refl, ap, sym, subst, ◌∙◌, arith, append_assoc, append-nil, length-append, length-drop, length-take, take-append-drop}
 use Rattle.std.proofs.lemmas.List.{length-take-le}
-use Rattle.std.proofs.lemmas.Bool.Decides.{nat_tests}
 use Rattle.ccp_base.specs.Outside.{Known, Rose, Takes, IsAtEnd, Takes-append}
 use Rattle.ccp_base.specs.Limits.{most_frame_bytes, most_input_bytes}
 use Rattle.feed_core.specs.FeedEnds.{Stream, stream}
-use Rattle.feed_core.specs.Rests.{between}
 use Rattle.driven_flow.specs.declared.front.FrontFault.{FrontFault}
 use Rattle.driven_flow.specs.declared.front.FrontFault.TheVariants.{TooLong, NoSeparator, ReadFailed, NoMemory}
 use Rattle.driven_flow.specs.Front.{with_front, divided_from, divided, front_in, IsOverlong, IsOpen, IsDivided, IsTooLong, IsFrontFault}
@@ -16,19 +14,9 @@ takes-nothing : (known : Known) → Takes known known []
 takes-nothing None = refl
 takes-nothing (Some bytes) = refl
 
--- the bytes between two places are no more than the end's place
-pub between-few : (bytes : List ℕ) (start end : ℕ) → end ≤ most_frame_bytes → length (between bytes start end) ≤ most_frame_bytes
-between-few bytes start end within =
-    let less : length (take (end - start) (drop start bytes)) ≤ end - start = omega (arith, length-take (end - start) (drop start bytes)) in
-    omega (arith, less, within)
-
 -- a count that rose late
 rose-late : (before middle now : ℕ) → before ≤ middle → Rose middle now → middle ≤ now → Rose before now
-rose-late before middle now first rose grown below = go (nat_lt middle (2 ^ 64 - 1)) refl
-  where
-    go : (b : Bool) → nat_lt middle (2 ^ 64 - 1) ≡ b → before < now
-    go true is = let less : middle < now = rose (grind (arith, nat_tests, is)) in omega (arith, less, first)
-    go false is = let full : 2 ^ 64 - 1 ≤ middle = grind (arith, nat_tests, is) in omega (arith, full, grown, below)
+rose-late before middle now first rose grown = search rules
 
 -- where a reading begins
 pub reading-first : (source : Known) (text rest : List ℕ) → text ≡ [] → rest ≡ [] → IsReading source source text rest false

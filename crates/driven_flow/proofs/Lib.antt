@@ -8,3 +8,4 @@ pub mod ReplyLemmas
 pub mod AgentLemmas
 pub mod FrontLineLemmas
 pub mod FrontReading
+pub mod FrontLaws

@@ -6,7 +6,7 @@ ghost use Rattle.ccp_base.specs.declared.parts.Separator.TheVariants.{LineFeed};
 ghost use Rattle.fold_run.specs.FirstPart.{first_of};
 ghost use Rattle.fold_run.specs.Separated.{is_separator};
 ghost use Rattle.feed_core.specs.FeedEnds.{stream};
-ghost use Rattle.driven_flow.specs.Front.{held, AllowsFront, IsFrontRead, DividedGoesOn};
+ghost use Rattle.driven_flow.specs.Front.{AllowsFront, IsFrontRead, DividedAtSeparator, DividedAtFirst, DividedGoesOn};
 ghost use Rattle.driven_flow.specs.FrontLines.{longest_separator, IsOther, IsWithinLine, IsNext, IsCounted};
 ghost use Rattle.driven_flow.specs.FrontLines.{IsMoved, IsMore, IsTextRead};
 
@@ -61,7 +61,7 @@ enum Line {
 /// fewer than the 8,596 of the longest frame. A line `---` that no LF ends doesn't count. Nothing is written, and at
 /// most 1,057,172 bytes are taken: the longest text and the longest frame.
 pub fn read_front<D: Duplex>(alloc: Global, duplex: &mut D, rest: &mut Rest) -> Result<Front, FrontFault>
-    requires empty { held rest.old ≡ [] }
+    requires empty { rest.old ≡ [] }
     requires allowed { AllowsFront D.remaining D.written D.is_finished D.Follows D.MayRead duplex.old }
     ensures follows { D.Follows duplex.old duplex.new }
     ensures written { D.written duplex.new ≡ D.written duplex.old }
@@ -70,7 +70,7 @@ pub fn read_front<D: Duplex>(alloc: Global, duplex: &mut D, rest: &mut Rest) -> 
     ensures reads { D.read_faults duplex.old ≤ D.read_faults duplex.new }
     ensures read { IsFrontRead
         (stream (D.remaining duplex.old) (D.remaining duplex.new)
-        (D.read_faults duplex.old) (D.read_faults duplex.new)) (held rest.new) result }
+        (D.read_faults duplex.old) (D.read_faults duplex.new)) rest.new result }
 {
     let mut text = Bytes::new(alloc);
     let eaten = read_text(duplex, rest, &mut text)?;
@@ -80,7 +80,7 @@ pub fn read_front<D: Duplex>(alloc: Global, duplex: &mut D, rest: &mut Rest) -> 
 /// Reads up to the LF of the first line `---`, appends what comes before the line to the empty text, and returns how
 /// many bytes came up to that LF, with it.
 fn read_text<D: Duplex>(duplex: &mut D, rest: &mut Rest, text: &mut Bytes) -> Result<usize, FrontFault>
-    requires empty { held rest.old ≡ [] }
+    requires empty { rest.old ≡ [] }
     requires none { text.old ≡ [] }
     requires allowed { AllowsFront D.remaining D.written D.is_finished D.Follows D.MayRead duplex.old }
     ensures follows { D.Follows duplex.old duplex.new }
@@ -90,7 +90,7 @@ fn read_text<D: Duplex>(duplex: &mut D, rest: &mut Rest, text: &mut Bytes) -> Re
     ensures reads { D.read_faults duplex.old ≤ D.read_faults duplex.new }
     ensures read { IsTextRead
         (stream (D.remaining duplex.old) (D.remaining duplex.new)
-        (D.read_faults duplex.old) (D.read_faults duplex.new)) text.new (held rest.new) result }
+        (D.read_faults duplex.old) (D.read_faults duplex.new)) text.new rest.new result }
 {
     let mut inside = false;
     loop {
@@ -159,8 +159,8 @@ fn may_separate(bytes: &[u8]) -> bool
 /// Moves bytes from the front of the rest to the end of the text, unless it is too long then.
 fn move_front(rest: &mut Rest, text: &mut Bytes, count: usize) -> Result<(), FrontFault>
     requires short { length text.old ≤ most_input_bytes }
-    requires within { count ≤ length (held rest.old) }
-    ensures moved { IsMoved count text.old (held rest.old) text.new (held rest.new) result }
+    requires within { count ≤ length rest.old }
+    ensures moved { IsMoved count text.old rest.old text.new rest.new result }
 {
     if count > LIMIT - text.len() {
         return Err(FrontFault::TooLong);
@@ -177,7 +177,7 @@ fn move_front(rest: &mut Rest, text: &mut Bytes, count: usize) -> Result<(), Fro
 /// Reads a piece after this many bytes of text. At the source's end it says what is wrong with text and rest, which
 /// have no line `---`.
 fn read_more<D: Duplex>(duplex: &mut D, rest: &mut Rest, text: usize) -> Result<(), FrontFault>
-    requires few { length (held rest.old) < most_frame_bytes }
+    requires few { length rest.old < most_frame_bytes }
     requires within { text ≤ most_input_bytes }
     requires allowed { D.MayRead duplex.old }
     ensures follows { D.Follows duplex.old duplex.new }
@@ -186,7 +186,7 @@ fn read_more<D: Duplex>(duplex: &mut D, rest: &mut Rest, text: usize) -> Result<
     ensures finished { D.is_finished duplex.old → D.is_finished duplex.new }
     ensures counted { D.read_faults duplex.old ≤ D.read_faults duplex.new }
     ensures came { IsMore (D.read_faults duplex.old) (D.read_faults duplex.new) (D.remaining duplex.old)
-        (D.remaining duplex.new) text (held rest.old) (held rest.new) result }
+        (D.remaining duplex.new) text rest.old rest.new result }
 {
     let left = rest.len();
     match rest.read(duplex, ROOM) {
@@ -197,8 +197,11 @@ fn read_more<D: Duplex>(duplex: &mut D, rest: &mut Rest, text: usize) -> Result<
     }
 }
 
-/// A law: what follows the line `---` changes nothing of the text before it.
+/// A law: a stream is divided at its first line `---` that a LF ends, and at no other place; what follows changes
+/// nothing of the text before that line.
 pub fn front_law()
+    ensures at_separator { DividedAtSeparator }
+    ensures at_first { DividedAtFirst }
     ensures goes_on { DividedGoesOn }
 {
 }

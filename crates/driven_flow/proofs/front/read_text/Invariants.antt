@@ -1,6 +1,5 @@
 use Rattle.std.proofs.Common.{◌≡◌, ◌+◌, ◌-◌, ◌≤◌, length}
 use Rattle.ccp_base.specs.Limits.{most_frame_bytes, most_input_bytes}
-use Rattle.driven_flow.specs.Front.{held}
 use Rattle.driven_flow.specs.FrontLines.{IsReading}
 use Rattle.driven_flow.proofs.front.read_text.Given as goal
 
@@ -11,10 +10,10 @@ invariant-loop-count g l = record {
   write_faults : g.D.Duplex.write_faults l.duplex ≡ g.D.Duplex.write_faults l.initial.duplex;
   finished : g.D.Duplex.is_finished l.initial.duplex → g.D.Duplex.is_finished l.duplex;
   reads : g.D.Duplex.read_faults l.initial.duplex ≤ g.D.Duplex.read_faults l.duplex;
-  reading : IsReading (g.D.Duplex.remaining l.initial.duplex) (g.D.Duplex.remaining l.duplex) l.text (held l.rest) l.inside;
+  reading : IsReading (g.D.Duplex.remaining l.initial.duplex) (g.D.Duplex.remaining l.duplex) l.text l.rest l.inside;
   within : length l.text ≤ most_input_bytes;
 }
 
 abbrev pub decreases-loop-count : goal.decreases-loop-count
 decreases-loop-count g l =
-    (most_input_bytes - length l.text) + (most_input_bytes + most_frame_bytes - (length l.text + length (held l.rest)))
+    (most_input_bytes - length l.text) + (most_input_bytes + most_frame_bytes - (length l.text + length l.rest))
