@@ -75,23 +75,23 @@ pub fn answer_from<A: Answerer, D: Duplex>(
         (D.write_faults duplex.old) (D.write_faults duplex.new))
         (D.is_finished duplex.new) answerer.new result }
 {
-    let mut eaten = eaten;
+    let mut place = eaten;
     loop {
         match next_frame(alloc, answerer, rest.as_slice(), duplex) {
             Turn::Answered(used) => {
                 rest.drop_front(used);
-                eaten += used;
+                place += used;
             }
             Turn::Part => {
                 let left = rest.len();
-                match rest.read(duplex, limit - eaten - left) {
+                match rest.read(duplex, limit - place - left) {
                     Piece::Bytes(_) => {}
-                    Piece::End => return at_end(duplex, answerer.waits(), eaten, left),
+                    Piece::End => return at_end(duplex, answerer.waits(), place, left),
                     Piece::Further => return FeedEnd::TooLong,
                     Piece::Failed => return FeedEnd::ReadFailed,
                 }
             }
-            Turn::Bad(field, offset) => return FeedEnd::Bad(field, (eaten + offset) as u64),
+            Turn::Bad(field, offset) => return FeedEnd::Bad(field, (place + offset) as u64),
             Turn::WriteFailed => return FeedEnd::WriteFailed,
             Turn::NoMemory => return FeedEnd::NoMemory,
         }
