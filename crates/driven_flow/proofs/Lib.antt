@@ -6,3 +6,6 @@ pub mod StateLemmas
 pub mod DrivenLiftLemmas
 pub mod ReplyLemmas
 pub mod AgentLemmas
+pub mod FrontLineLemmas
+pub mod FrontReading
+pub mod FrontLaws

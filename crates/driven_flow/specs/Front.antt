@@ -1,13 +1,11 @@
 -- The scenario that a stream begins with, which its first line `---` ends, and what a call that reads it has taken.
-use Rattle.std.specs.Prelude.{◌≡◌, ◌⊎◌, ℕ, ◌+◌, ◌<◌, ◌≤◌, Option, Some, None, option_map, Result, Ok, Err, if◌then◌else◌, List, [], ◌∷◌, ◌++◌, length}
+use Rattle.std.specs.Prelude.{◌≡◌, ◌⊎◌, ℕ, ◌+◌, ◌<◌, ◌≤◌, Bool, true, Option, Some, None, option_map, Result, Ok, Err, if◌then◌else◌, List, [], ◌∷◌, ◌++◌, length}
 use Rattle.ccp_base.specs.Outside.{Known, Rose, Takes, IsAtEnd}
 use Rattle.ccp_base.specs.Limits.{most_frame_bytes, most_input_bytes}
 use Rattle.ccp_base.specs.declared.parts.Separator.TheVariants.{LineFeed}
 use Rattle.ccp_base.specs.Parts.{separates}
 use Rattle.fold_run.specs.Separated.{is_separator}
-use Rattle.feed_core.specs.declared.rest.Rest.{Rest}
 use Rattle.feed_core.specs.FeedEnds.{Stream}
-use Rattle.feed_core.specs.Rests.{between}
 use Rattle.driven_flow.specs.declared.front.Front.{Front}
 use Rattle.driven_flow.specs.declared.front.FrontFault.{FrontFault}
 use Rattle.driven_flow.specs.declared.front.FrontFault.TheVariants.{TooLong, NoSeparator, ReadFailed, NoMemory}
@@ -46,10 +44,6 @@ pub record IsOpen (bytes : List ℕ) : Type 0 where
   pub within : length (front_in (bytes ++ more) (divided (bytes ++ more))) ≤ most_input_bytes
 
 -- ---- what the call has taken
-
--- the bytes that were read and that nothing has taken yet
-abbrev pub held : Rest → List ℕ
-held rest = between rest.bytes rest.start rest.end
 
 -- a read is allowed in every state that comes from this one in which nothing was written, and what was taken since is
 -- open
@@ -96,17 +90,49 @@ pub record LacksMemoryForFront (source : Stream) : Type 0 where
   pub taken : Takes source.old source.new bytes
   pub few : length bytes ≤ most_input_bytes + most_frame_bytes
 
+-- what each fault of the call says
+abbrev pub IsFrontFault : Stream → FrontFault → Type 0
+IsFrontFault source TooLong = IsTooLong source
+IsFrontFault source NoSeparator = HasNoSeparator source
+IsFrontFault source ReadFailed = FailsToReadFront source
+IsFrontFault source NoMemory = LacksMemoryForFront source
+
 -- what each result of the call says, with the bytes that are left in its rest
 abbrev pub IsFrontRead : Stream → List ℕ → Result Front FrontFault → Type 0
 IsFrontRead source rest (Ok front) = IsDivided source front.text rest front.eaten
-IsFrontRead source rest (Err TooLong) = IsTooLong source
-IsFrontRead source rest (Err NoSeparator) = HasNoSeparator source
-IsFrontRead source rest (Err ReadFailed) = FailsToReadFront source
-IsFrontRead source rest (Err NoMemory) = LacksMemoryForFront source
+IsFrontRead source rest (Err fault) = IsFrontFault source fault
 
 -- ---- laws
 
--- what follows the bytes that are divided is after them in the rest
+-- no bytes, or a line feed at the end
+abbrev pub is_ended : List ℕ → Bool
+is_ended [] = true
+is_ended (byte ∷ []) = separates LineFeed byte
+is_ended (byte ∷ next ∷ rest) = is_ended (next ∷ rest)
+
+-- bytes are whole lines of text, the line `---` with its line feed, and the rest
+pub record HasSeparator (bytes text rest : List ℕ) : Type 0 where
+  pub line : List ℕ
+  pub separator : is_separator line ≡ true
+  pub whole : bytes ≡ text ++ line ++ 10 ∷ rest
+  pub ended : is_ended text ≡ true
+
+-- bytes are divided, and no later than after this text
+pub record DividesBy (bytes text : List ℕ) : Type 0 where
+  pub first : List ℕ
+  pub rest : List ℕ
+  pub divided_is : divided bytes ≡ Some (first, rest)
+  pub no_later : length first ≤ length text
+
+-- bytes are divided at a line `---`
+abbrev pub DividedAtSeparator : Type 0
+DividedAtSeparator = (bytes text rest : List ℕ) → divided bytes ≡ Some (text, rest) → HasSeparator bytes text rest
+
+-- with a line `---` they are divided, and at the first one
+abbrev pub DividedAtFirst : Type 0
+DividedAtFirst = (bytes text rest : List ℕ) → HasSeparator bytes text rest → DividesBy bytes text
+
+-- what follows comes behind the rest
 abbrev pub DividedGoesOn : Type 0
 DividedGoesOn = (bytes more text rest : List ℕ) → divided bytes ≡ Some (text, rest)
     → divided (bytes ++ more) ≡ Some (text, rest ++ more)

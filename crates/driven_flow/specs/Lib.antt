@@ -10,3 +10,4 @@ pub mod Front
 pub mod DrivenParts
 pub mod DrivenJournals
 pub mod DrivenStates
+pub mod FrontLines
