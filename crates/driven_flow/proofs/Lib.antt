@@ -4,5 +4,7 @@ pub mod PartLemmas
 pub mod RoomLemmas
 pub mod StateLemmas
 pub mod DrivenLiftLemmas
+pub mod DrivenTextLemmas
 pub mod ReplyLemmas
 pub mod AgentLemmas
+mod WorkedDriven

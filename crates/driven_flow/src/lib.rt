@@ -9,8 +9,10 @@ mod machine_calls;
 mod parts;
 mod programs;
 mod state;
+mod timeline;
 
 pub use answer::Answer;
 pub use case::DrivenCase;
 pub use driven::DrivenFlow;
 pub use programs::{first_bad, is_known};
+pub use timeline::put_flow_part;
