@@ -2,4 +2,5 @@
 mod CompiledCounts
 pub mod BookLemmas
 mod LabelLemmas
+mod OwnLemmas
 mod WorkedAcks

@@ -1,12 +1,13 @@
 -- The text of acknowledgements: for each case the line of its flow, and then a line for each acknowledgement, which is
 -- one of `fold`.
-use Rattle.std.specs.Prelude.{ℕ, ◌+◌, ◌==◌, ◌||◌, nat_lt, Bool, true, false, if◌then◌else◌, List, [], ◌∷◌, codes, decimal}
+use Rattle.std.specs.Prelude.{ℕ, ◌+◌, ◌==◌, ◌||◌, nat_lt, Bool, true, false, if◌then◌else◌, List, [], ◌∷◌, map, codes, decimal}
 use Rattle.ccp_base.specs.declared.ack.Ack.{Ack}
 use Rattle.ccp_base.specs.Acknowledgement.{prim}
 use Rattle.ccp_base.specs.PrimitiveNames.{PrimitiveName, primitive_names}
 use Rattle.ccp_base.specs.Text.{◌⧺◌}
 use Rattle.agent_core.specs.declared.agent.Agent.{Agent}
-use Rattle.flow_core.specs.LiveText.{flow_line}
+use Rattle.flow_core.specs.LiveText.{agent_text}
+use Rattle.live_lines.specs.FlowLabels.{labelled_line, own}
 
 -- ---- an acknowledgement
 
@@ -45,17 +46,24 @@ ack_lines (ack ∷ rest) = ack_line ack ⧺ ack_lines rest
 
 -- ---- flows
 
--- a flow's line, and those of its acknowledgements
-abbrev pub flow_text : ℕ → List ℕ → Agent → List Ack → List ℕ
-flow_text flow name agent acks = flow_line flow name agent ⧺ ack_lines acks
+-- a flow's line, with this word for its agent, and those of its acknowledgements
+abbrev pub flow_text : ℕ → List ℕ → List ℕ → List Ack → List ℕ
+flow_text flow name label acks = labelled_line flow name label ⧺ ack_lines acks
 
--- the flows, numbered from this one on, each with its case's name and agent
-abbrev pub flows_text : ℕ → List (List ℕ) → List Agent → List (List Ack) → List ℕ
-flows_text flow names agents [] = []
-flows_text flow [] agents (acks ∷ rest) = []
+-- the flows, numbered from this one on, each with its case's name and the word for its agent
+abbrev pub flows_text : ℕ → List (List ℕ) → List (List ℕ) → List (List Ack) → List ℕ
+flows_text flow names labels [] = []
+flows_text flow [] labels (acks ∷ rest) = []
 flows_text flow (name ∷ names) [] (acks ∷ rest) = []
-flows_text flow (name ∷ names) (agent ∷ agents) (acks ∷ rest) =
-    flow_text flow name agent acks ⧺ flows_text (flow + 1) names agents rest
+flows_text flow (name ∷ names) (label ∷ labels) (acks ∷ rest) =
+    flow_text flow name label acks ⧺ flows_text (flow + 1) names labels rest
 
 abbrev pub acks_text : List (List ℕ) → List Agent → List (List Ack) → List ℕ
-acks_text names agents acks = flows_text 0 names agents acks
+acks_text names agents acks = flows_text 0 names (map agent_text agents) acks
+
+-- a flow that an agent outside drives, and all of them
+abbrev pub own_flow_text : ℕ → List ℕ → List Ack → List ℕ
+own_flow_text flow name acks = flow_text flow name own acks
+
+abbrev pub own_acks_text : List (List ℕ) → List (List Ack) → List ℕ
+own_acks_text names acks = flows_text 0 names (map (λ acks. own) acks) acks

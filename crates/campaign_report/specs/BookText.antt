@@ -1,5 +1,5 @@
 -- The text of books: of each its account, read over the sources of programs with their places.
-use Rattle.std.specs.Prelude.{◌==◌, ℕ, if◌then◌else◌, List, [], ◌∷◌, map}
+use Rattle.std.specs.Prelude.{ℕ, List, [], ◌∷◌, map}
 use Rattle.ccp_base.specs.declared.exchange.Notice.{Notice}
 use Rattle.ccp_base.specs.declared.place.Place.{Place}
 use Rattle.ccp_base.specs.Text.{◌⧺◌}
@@ -8,18 +8,13 @@ use Rattle.report_lines.specs.declared.end_line.End.{End}
 use Rattle.flow_core.specs.declared.book.Book.{Book}
 use Rattle.flow_core.specs.declared.book.EpochLine.{EpochLine}
 use Rattle.flow_core.specs.declared.case.Case.{Case}
-use Rattle.flow_core.specs.Lift.{place_at}
+use Rattle.flow_core.specs.Lift.{Placing, place_at}
 use Rattle.flow_core.specs.LiveText.{Account, account_text, sources_of}
 use Rattle.flow_core.specs.Readings.{by_number}
 use Rattle.flow_core.specs.Words.{acks_in}
 use Rattle.flow_core.specs.World.{Failure}
-
--- ---- programs by their numbers
-
--- the places of the first program with this number
-abbrev pub program_places : List (ℕ × Built) → ℕ → List Place
-program_places [] number = []
-program_places (program ∷ rest) number = if program.0 == number then program.1.places else program_places rest number
+use Rattle.live_lines.specs.FaultPlaces.{placed}
+pub use Rattle.live_lines.specs.FaultPlaces.{program_places}
 
 -- ---- the account of a book
 
@@ -33,17 +28,13 @@ abbrev pub places_in : List (ℕ × Built) → Case → ℕ → List Place
 places_in programs case =
     by_number case (program_places programs case.ss.role.number) (program_places programs case.ca.role.number)
 
+-- by the number of one of the case's programs and an instruction's index, its place
+abbrev pub case_placing : List (ℕ × Built) → Case → Placing
+case_placing programs case number = place_at (places_in programs case number)
+
 -- a fault, with the place of its instruction
 abbrev pub placed_failure : List (ℕ × Built) → Case → Notice → Failure Place
-placed_failure programs case notice = record {
-  program = notice.program;
-  epoch = notice.epoch;
-  at = notice.at;
-  kind = notice.kind;
-  site = place_at (places_in programs case notice.program) notice.index;
-  now = notice.now;
-  cwnd = notice.cwnd;
-}
+placed_failure programs case = placed (case_placing programs case)
 
 -- how the flow stands after the letters of its word
 abbrev pub end_in : Book → End

@@ -1,11 +1,12 @@
 -- The table of a campaign: a heading, a line for each case, and the sums over all cases.
-use Rattle.std.specs.Prelude.{ℕ, ◌+◌, Bool, true, false, List, [], ◌∷◌, length, codes, decimal}
+use Rattle.std.specs.Prelude.{ℕ, ◌+◌, Bool, true, false, List, [], ◌∷◌, length, map, codes, decimal}
 use Rattle.ccp_base.specs.Text.{◌⧺◌}
 use Rattle.agent_core.specs.declared.agent.Agent.{Agent}
 use Rattle.flow_core.specs.LiveText.{agent_text}
 use Rattle.campaign_core.specs.declared.row.Column.{Column}
 use Rattle.campaign_core.specs.declared.row.Row.{Row}
 use Rattle.campaign_core.specs.CampaignRow.{columns, heading_of, column_value, is_summed}
+use Rattle.live_lines.specs.FlowLabels.{own}
 
 -- ---- the heading
 
@@ -28,19 +29,19 @@ abbrev pub values : List Column → Row → List ℕ
 values [] row = []
 values (column ∷ rest) row = after_space (column_value column row) ⧺ values rest row
 
--- the name of a case and its agent
-abbrev pub row_head : List ℕ → Agent → List ℕ
-row_head name agent = name ⧺ codes " " ⧺ agent_text agent
+-- the name of a case and the word for its agent
+abbrev pub row_head : List ℕ → List ℕ → List ℕ
+row_head name label = name ⧺ codes " " ⧺ label
 
-abbrev pub row_line : List ℕ → Agent → Row → List ℕ
-row_line name agent row = row_head name agent ⧺ values columns row ⧺ codes "\n"
+abbrev pub row_line : List ℕ → List ℕ → Row → List ℕ
+row_line name label row = row_head name label ⧺ values columns row ⧺ codes "\n"
 
--- the rows, each with its case's name and agent
-abbrev pub row_lines : List Row → List (List ℕ) → List Agent → List ℕ
-row_lines [] names agents = []
-row_lines (row ∷ rows) [] agents = []
+-- the rows, each with its case's name and the word for its agent
+abbrev pub row_lines : List Row → List (List ℕ) → List (List ℕ) → List ℕ
+row_lines [] names labels = []
+row_lines (row ∷ rows) [] labels = []
 row_lines (row ∷ rows) (name ∷ names) [] = []
-row_lines (row ∷ rows) (name ∷ names) (agent ∷ agents) = row_line name agent row ⧺ row_lines rows names agents
+row_lines (row ∷ rows) (name ∷ names) (label ∷ labels) = row_line name label row ⧺ row_lines rows names labels
 
 -- ---- the total
 
@@ -65,8 +66,16 @@ total_line rows = codes "total cases=" ⧺ decimal (length rows) ⧺ sums column
 
 -- ---- the texts
 
+-- the table of rows, whose cases have these names and agents these words
+abbrev pub labelled_table : List (List ℕ) → List (List ℕ) → List Row → List ℕ
+labelled_table names labels rows = heading columns ⧺ row_lines rows names labels ⧺ total_line rows
+
 abbrev pub table_text : List (List ℕ) → List Agent → List Row → List ℕ
-table_text names agents rows = heading columns ⧺ row_lines rows names agents ⧺ total_line rows
+table_text names agents rows = labelled_table names (map agent_text agents) rows
+
+-- the table of flows that agents outside drive
+abbrev pub own_table_text : List (List ℕ) → List Row → List ℕ
+own_table_text names rows = labelled_table names (map (λ row. own) rows) rows
 
 abbrev pub soak_head : ℕ → List ℕ
 soak_head number = codes "soak number=" ⧺ decimal number ⧺ codes "\n"

@@ -1,14 +1,13 @@
 //! The text of acknowledgements: a line for each flow, then one for each of its acknowledgements.
 ghost use Rattle.std.specs.Prelude.{◌≡◌, ◌≤◌, ◌<◌, ◌++◌, ◌||◌, false, IfOk, OnOk, length, map};
 ghost use Rattle.ccp_base.specs.Limits.{most_cases, primitive_count};
-ghost use Rattle.campaign_report.specs.AcksText.{ack_line, ack_lines, acks_text, flow_text, flows_text, gap, is_shown};
+ghost use Rattle.campaign_report.specs.AcksText.{ack_line, ack_lines, acks_text, flow_text, flows_text, gap, is_shown, own_flow_text};
 ghost use Rattle.campaign_report.specs.AckLabels.{labelled_item, labelled_items};
 
 use crate::table::Agents;
-use agent_core::Agent;
 use campaign_core::CaseAcks;
 use ccp_base::{Ack, Acks, Bytes, Name, Names, NoMemory, prim};
-use live_lines::put_flow_line;
+use live_lines::{Label, Own, put_labelled_line};
 use report_lines::put_labelled;
 use std::alloc::Global;
 
@@ -58,47 +57,54 @@ pub fn acks_text(
     Ok(text)
 }
 
-fn put_flows(
+/// Appends the text of the acknowledgements of one flow that an agent outside drives, with `own` as its agent.
+pub fn put_own_acks(text: &mut Bytes, flow: u32, name: &Name, acks: &[Ack]) -> Result<(), NoMemory>
+    ensures { OnOk result (text.new ≡ text.old ++ own_flow_text flow name.now acks.now) }
+{
+    put_flow_text(text, flow, name, &Own, acks)
+}
+
+fn put_flows<L: Label>(
     text: &mut Bytes,
     names: &[Name],
-    agents: &[Agent],
+    labels: &[L],
     acks: &[Acks],
 ) -> Result<(), NoMemory>
     requires { length acks.now ≤ most_cases }
-    ensures { OnOk result (text.new ≡ text.old ++ flows_text 0 names.now agents.now acks.now) }
+    ensures { OnOk result (text.new ≡ text.old ++ flows_text 0 names.now (map L.word labels.now) acks.now) }
 {
     let mut flow = 0;
     let mut left = acks;
     let mut left_names = names;
-    let mut left_agents = agents;
+    let mut left_labels = labels;
     while let Some((acks, rest)) = left.split_first() {
         let Some((name, rest_names)) = left_names.split_first() else {
             return Ok(());
         };
-        let Some((agent, rest_agents)) = left_agents.split_first() else {
+        let Some((label, rest_labels)) = left_labels.split_first() else {
             return Ok(());
         };
-        put_flow_text(text, flow, name, agent, acks)?;
+        put_flow_text(text, flow, name, label, acks.as_slice())?;
         flow += 1;
         left = rest;
         left_names = rest_names;
-        left_agents = rest_agents;
+        left_labels = rest_labels;
     }
     Ok(())
 }
 
 // A function of its own: the loop above has one call in each turn, so it needs only its invariant.
-fn put_flow_text(
+fn put_flow_text<L: Label>(
     text: &mut Bytes,
     flow: u32,
     name: &Name,
-    agent: &Agent,
-    acks: &Acks,
+    label: &L,
+    acks: &[Ack],
 ) -> Result<(), NoMemory>
-    ensures { OnOk result (text.new ≡ text.old ++ flow_text flow name.now agent.now acks.now) }
+    ensures { OnOk result (text.new ≡ text.old ++ flow_text flow name.now (L.word label.now) acks.now) }
 {
-    put_flow_line(text, flow, name, agent)?;
-    put_acks(text, acks.as_slice())
+    put_labelled_line(text, flow, name, label)?;
+    put_acks(text, acks)
 }
 
 /// Appends the lines of acknowledgements.

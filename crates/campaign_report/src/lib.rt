@@ -11,9 +11,9 @@ mod table;
 mod total;
 mod wire;
 
-pub use acks::acks_text;
+pub use acks::{acks_text, put_own_acks};
 pub use check::check_text;
 pub use fold::fold_text;
 pub use live::live_text;
-pub use table::{Agents, soak_text, table_text};
+pub use table::{Agents, own_table_text, soak_text, table_text};
 pub use wire::wire_text;

@@ -1,19 +1,20 @@
 //! The text of a live run: for each flow its epochs, faults with their places, tickets and end.
-ghost use Rattle.std.specs.Prelude.{◌≡◌, ◌++◌, IfOk, OnOk, map};
+ghost use Rattle.std.specs.Prelude.{◌≡◌, ◌++◌, IfOk, OnOk};
 ghost use Rattle.std.specs.List.{All};
-ghost use Rattle.flow_core.specs.LiveText.{account_end_line, epoch_lines, fault_lines, sources_of, ticket_lines};
+ghost use Rattle.flow_core.specs.LiveText.{account_end_line, sources_of, ticket_lines};
 ghost use Rattle.flow_core.specs.Words.{acks_in};
-ghost use Rattle.campaign_report.specs.BookText.{account_in, book_text, books_text, end_in, placed_failure, last_program};
+ghost use Rattle.campaign_report.specs.BookText.{account_in, book_text, books_text, end_in, last_program};
 ghost use Rattle.campaign_report.specs.BooksRead.{IsBookRead, read_text};
 
-use crate::programs::place_of;
-use ccp_base::{Bytes, NoMemory, Notice};
-use flow_core::{Book, Case, EpochLine, Letter, TicketLine};
+use crate::programs::CasePlaces;
+use ccp_base::{Bytes, NoMemory};
+use flow_core::{Book, EpochLine, Letter, TicketLine};
 use live_lines::{
-    Counts, fields_of, put_epoch_line, put_flow_line, put_last_line, put_ticket_line, report_count,
+    Counts, fields_of, put_epoch_lines, put_fault_lines, put_flow_line, put_last_line,
+    put_ticket_line, report_count,
 };
 use reg_compiler::{Built, Builts};
-use report_lines::{End, put_fault};
+use report_lines::End;
 use std::alloc::Global;
 
 /// The text of a live run: of each book its flow, its epochs, its faults with their places, its tickets, and how the
@@ -45,36 +46,10 @@ fn put_book(text: &mut Bytes, programs: &[(u32, Built)], book: &Book) -> Result<
 {
     let case = &book.case;
     put_flow_line(text, case.flow, &case.name, &case.agent)?;
-    put_epochs(text, book.epochs.as_slice())?;
-    put_faults(text, programs, case, book.faults.as_slice())?;
+    put_epoch_lines(text, book.epochs.as_slice())?;
+    put_fault_lines(text, &CasePlaces { programs, case }, book.faults.as_slice())?;
     put_tickets(text, programs, book.tickets.as_slice())?;
     put_last(text, programs, book)
-}
-
-fn put_epochs(text: &mut Bytes, epochs: &[EpochLine]) -> Result<(), NoMemory>
-    ensures { OnOk result (text.new ≡ text.old ++ epoch_lines 0 epochs.now) }
-{
-    for (number, epoch) in epochs.iter().enumerate() {
-        put_epoch_line(text, number, epoch)?;
-    }
-    Ok(())
-}
-
-fn put_faults(
-    text: &mut Bytes,
-    programs: &[(u32, Built)],
-    case: &Case,
-    faults: &[Notice],
-) -> Result<(), NoMemory>
-    ensures { OnOk result (text.new ≡ text.old ++ fault_lines (map (placed_failure programs.now case.now) faults.now)) }
-{
-    let mut left = faults;
-    while let Some((notice, rest)) = left.split_first() {
-        let place = place_of(programs, case, notice.program, notice.index);
-        put_fault(text, notice, place)?;
-        left = rest;
-    }
-    Ok(())
 }
 
 fn put_tickets(

@@ -1,24 +1,27 @@
-//! The source places of programs' instructions, by the programs' numbers.
+//! The source places of the instructions of a case's programs.
 ghost use Rattle.std.specs.Prelude.{◌≡◌};
-ghost use Rattle.flow_core.specs.Lift.{place_at};
-ghost use Rattle.campaign_report.specs.BookText.{places_in, program_places};
+ghost use Rattle.campaign_report.specs.BookText.{places_in};
 
 use ccp_base::Place;
 use flow_core::Case;
+use live_lines::{Places, place_at, program_places};
 use reg_compiler::Built;
 
-/// The places of the first program with this number; none if there is no such program.
-fn program_places<'a>(programs: &'a [(u32, Built)], number: u32) -> &'a [Place]
-    ensures { result.now ≡ program_places programs.now number }
-{
-    let mut left = programs;
-    while let Some((program, rest)) = left.split_first() {
-        if program.0 == number {
-            return program.1.places.as_slice();
-        }
-        left = rest;
+/// The places of the instructions of a case's two programs, which are among these.
+#[derive(Clone, Copy)]
+pub(crate) struct CasePlaces<'a> {
+    pub(crate) programs: &'a [(u32, Built)],
+    pub(crate) case: &'a Case,
+}
+
+impl<'a> Places for CasePlaces<'a> {
+    ghost use Rattle.campaign_report.specs.BookText.{case_placing};
+
+    ghost placing = { λ places. case_placing places.programs.now places.case.now };
+
+    fn place(&self, program: u32, index: u16) -> Place {
+        place_at(places_in(self.programs, self.case, program), index)
     }
-    &[]
 }
 
 /// The places of the program with this number, which is one of the case's two.
@@ -29,21 +32,5 @@ fn places_in<'a>(programs: &'a [(u32, Built)], case: &Case, number: u32) -> &'a 
         program_places(programs, case.ss.role.number)
     } else {
         program_places(programs, case.ca.role.number)
-    }
-}
-
-/// The place of an instruction of one of a case's programs; 0:0 if it has none.
-pub(crate) fn place_of(programs: &[(u32, Built)], case: &Case, number: u32, index: u16) -> Place
-    ensures { result ≡ place_at (places_in programs.now case.now number) index }
-{
-    place_at(places_in(programs, case, number), index)
-}
-
-fn place_at(places: &[Place], index: u16) -> Place
-    ensures { result ≡ place_at places.now index }
-{
-    match places.get(usize::from(index)) {
-        None => Place { line: 0, column: 0 },
-        Some(place) => *place,
     }
 }

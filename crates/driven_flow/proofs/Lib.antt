@@ -4,8 +4,10 @@ pub mod PartLemmas
 pub mod RoomLemmas
 pub mod StateLemmas
 pub mod DrivenLiftLemmas
+pub mod DrivenTextLemmas
 pub mod ReplyLemmas
 pub mod AgentLemmas
 pub mod FrontLineLemmas
 pub mod FrontReading
 pub mod FrontLaws
+mod WorkedDriven

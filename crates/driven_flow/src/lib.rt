@@ -11,6 +11,7 @@ mod parts;
 mod programs;
 mod scene;
 mod state;
+mod timeline;
 
 pub use answer::Answer;
 pub use case::DrivenCase;
@@ -18,3 +19,4 @@ pub use driven::DrivenFlow;
 pub use front::{Front, FrontFault, front_law, read_front};
 pub use programs::{first_bad, is_known};
 pub use scene::driven_cases;
+pub use timeline::put_flow_part;

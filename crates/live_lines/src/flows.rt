@@ -1,7 +1,9 @@
-//! The first line of a flow: its number, the name of its case, and its agent's kind.
+//! The first line of a flow: its number, the name of its case, and the word for its agent.
 ghost use Rattle.std.specs.Prelude.{◌≡◌, ◌++◌, OnOk};
 ghost use Rattle.flow_core.specs.LiveText.{agent_text, flow_line};
+ghost use Rattle.live_lines.specs.FlowLabels.{labelled_line};
 
+use crate::labels::Label;
 use agent_core::Agent;
 use ccp_base::{Bytes, Name, NoMemory};
 use report_lines::put_flow_head;
@@ -15,16 +17,21 @@ pub fn put_flow_line(
 ) -> Result<(), NoMemory>
     ensures { OnOk result (text.new ≡ text.old ++ flow_line flow name.now agent.now) }
 {
-    put_flow_head(text, flow, name.as_slice())?;
-    text.extend(b" agent=")?;
-    text.extend(agent_text(agent).as_bytes())?;
-    text.push(b'\n')?;
-    Ok(())
+    put_labelled_line(text, flow, name, agent)
 }
 
-/// The name of an agent's kind.
-pub fn agent_text(agent: &Agent) -> &'static str
-    ensures { result.now ≡ agent_text agent.now }
+/// Appends the first line of a flow: its number, the name of its case, and the word that stands for its agent.
+pub fn put_labelled_line<L: Label>(
+    text: &mut Bytes,
+    flow: u32,
+    name: &Name,
+    label: &L,
+) -> Result<(), NoMemory>
+    ensures { OnOk result (text.new ≡ text.old ++ labelled_line flow name.now (L.word label.now)) }
 {
-    agent.name()
+    put_flow_head(text, flow, name.as_slice())?;
+    text.extend(b" agent=")?;
+    text.extend(label.label().as_bytes())?;
+    text.push(b'\n')?;
+    Ok(())
 }

@@ -5,11 +5,15 @@
 mod ends;
 mod epochs;
 mod flows;
+mod labels;
+mod places;
 mod programs;
 mod tickets;
 
 pub use ends::{Counts, put_last_line};
-pub use epochs::put_epoch_line;
-pub use flows::{agent_text, put_flow_line};
+pub use epochs::{put_epoch_line, put_epoch_lines};
+pub use flows::{put_flow_line, put_labelled_line};
+pub use labels::{Label, Own};
+pub use places::{Places, place_at, program_places, put_fault_lines};
 pub use programs::fields_of;
-pub use tickets::{put_ticket_line, report_count};
+pub use tickets::{ReplyText, put_answered_line, put_ticket_line, report_count};

@@ -1,6 +1,6 @@
 use Rattle.std.proofs.Common.{◌≡◌, length}
-use Rattle.campaign_report.specs.BookText.{program_places}
-use Rattle.campaign_report.proofs.programs.program_places.Given as goal
+use Rattle.live_lines.specs.FaultPlaces.{program_places}
+use Rattle.live_lines.proofs.places.program_places.Given as goal
 
 abbrev pub invariant-loop-program : goal.invariant-loop-program
 invariant-loop-program l =

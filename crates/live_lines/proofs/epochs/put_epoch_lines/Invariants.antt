@@ -1,6 +1,6 @@
 use Rattle.std.proofs.Common.{◌≡◌, ◌++◌, drop}
 use Rattle.flow_core.specs.LiveText.{epoch_lines}
-use Rattle.campaign_report.proofs.live.put_epochs.Given as goal
+use Rattle.live_lines.proofs.epochs.put_epoch_lines.Given as goal
 
 abbrev pub invariant-loop-number : goal.invariant-loop-number
 invariant-loop-number l =
