@@ -33,3 +33,4 @@ pub mod Tool
 pub mod Attempts
 pub mod Endings
 pub mod FeedEndings
+pub mod DriveEnds
