@@ -5,6 +5,7 @@ pub mod FeedBegins
 mod FeedEats
 mod FeedEnding
 mod FeedInput
+pub mod FeedMaps
 mod FeedKept
 mod FeedLemmas
 mod FeedSteps
