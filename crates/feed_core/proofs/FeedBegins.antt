@@ -1,5 +1,5 @@
 -- Where frames begin.
-use Rattle.std.proofs.Common.{◌≡◌, inl, ℕ, ◌+◌, ◌-◌, ◌≤◌, false, List, [], length, ap, sym, refl, subst, ◌∙◌, arith, append-nil}
+use Rattle.std.proofs.Common.{◌≡◌, inl, ℕ, ◌+◌, ◌-◌, ◌≤◌, false, [], length, ap, sym, refl, subst, ◌∙◌, arith, append-nil}
 use Rattle.ccp_base.specs.Limits.{most_input_bytes}
 use Rattle.ccp_base.specs.Outside.{Known, Appends}
 use Rattle.feed_core.specs.declared.ending.FeedEnd.TheVariants as ends
