@@ -1,10 +1,11 @@
 -- Where frames begin.
-use Rattle.std.proofs.Common.{◌≡◌, inl, ℕ, ◌+◌, ◌-◌, ◌≤◌, false, List, [], length, ap, sym, refl, subst, ◌∙◌, arith, append-nil}
+use Rattle.std.proofs.Common.{◌≡◌, inl, ℕ, ◌+◌, ◌-◌, ◌≤◌, false, [], length, ap, sym, refl, subst, ◌∙◌, arith, append-nil}
+use Rattle.std.proofs.Math.Seq.{take-nil}
 use Rattle.ccp_base.specs.Limits.{most_input_bytes}
 use Rattle.ccp_base.specs.Outside.{Known, Appends}
 use Rattle.feed_core.specs.declared.ending.FeedEnd.TheVariants as ends
 use Rattle.feed_core.specs.Feed.{FeedState, no_flows, answer_message}
-use Rattle.feed_core.specs.FeedBytes.{left, Fed, with_answers, fed_no_more, fed, frames_from, feed_of}
+use Rattle.feed_core.specs.FeedBytes.{AnswerRule, left, Fed, with_answers, fed_no_more, fed, frames_from, feed_of}
 use Rattle.feed_core.specs.Answering.{end_from, feeding}
 use Rattle.feed_core.specs.FeedTurns.{Start, IsFeeding}
 use Rattle.feed_core.specs.FeedEnds.{answers_written, stream, IsFed}
@@ -38,10 +39,15 @@ feeding-first start source sink is_finished roomy within = record {
   within = within;
 }
 
+-- no bytes have no frames
+pub no-frames : {S : Type 0} (answer : AnswerRule S) (limit place : ℕ) (state : S) → frames_from answer limit place state [] ≡ fed_no_more (left place []) state
+unfolding frames_from
+no-frames answer limit place state =
+    ap (fed answer (limit - place) place state) (take-nil (limit - place)) ∙ fed-nothing answer (limit - place) place state
+
 -- no bytes have no answers, and are whole
 nothing-fed : feed_of [] ≡ fed_no_more (left 0 []) no_flows
-unfolding frames_from
-nothing-fed = fed-nothing answer_message most_input_bytes 0 no_flows
+nothing-fed = no-frames answer_message most_input_bytes 0 no_flows
 
 pub no-answers : answers_written [] ≡ []
 no-answers = ap (λ (f : Fed FeedState). f.answers) nothing-fed

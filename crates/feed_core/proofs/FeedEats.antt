@@ -1,5 +1,5 @@
 -- One more frame, and one more piece, of an input.
-use Rattle.std.proofs.Common.{◌≡◌, inl, inr, ℕ, suc, ◌+◌, ◌-◌, ◌<◌, ◌≤◌, Ok, List, ◌++◌, length, drop, ap, sym, refl, subst, ◌∙◌, arith, append_assoc, length-append}
+use Rattle.std.proofs.Common.{◌≡◌, inl, inr, ℕ, suc, ◌+◌, ◌-◌, ◌<◌, ◌≤◌, Ok, List, ◌++◌, length, drop, ap, sym, refl, ◌∙◌, arith, append_assoc, length-append}
 use Rattle.std.proofs.Math.Seq.{drop-append_seam}
 use Rattle.ccp_base.specs.Outside.{Known, Takes, Appends, Takes-append, Appends-append}
 use Rattle.reply_frames.specs.declared.outline.Version.{Version}

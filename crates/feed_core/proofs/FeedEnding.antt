@@ -13,7 +13,7 @@ use Rattle.ccp_messages.specs.Decoding.{Begins, BeginsInstall, decoded_of}
 use Rattle.ccp_messages.proofs.DecodeLaws.{begins-decoded}
 use Rattle.feed_core.specs.declared.ending.FeedEnd.{FeedEnd}
 use Rattle.feed_core.specs.declared.ending.FeedEnd.TheVariants as ends
-use Rattle.feed_core.specs.FeedBytes.{AnswerRule, Tail, left, bad, Fed, answer_to, with_answers, fed_no_more, fed_on, fed, frames_from}
+use Rattle.feed_core.specs.FeedBytes.{left, bad, Fed, answer_to, with_answers, fed_no_more, fed_on, fed, frames_from}
 use Rattle.feed_core.specs.Answering.{Answering, after, end_from, answering}
 use Rattle.feed_core.specs.FeedTurns.{Start, IsTaking, FailsOne, IsFeeding}
 use Rattle.feed_core.specs.FeedEnds.{stream, AreHandedOn, AnswersInput, MayGoOn, IsFed}

@@ -1,5 +1,5 @@
 -- What the frames of an input say of a datapath's input.
-use Rattle.std.proofs.Common.{◌≡◌, ◌⊎◌, inl, inr, ℕ, ◌<◌, ◌≤◌, Bool, true, false, cond, nat_lt, Option, Some, None, List, [], ◌++◌, length, take, ap, refl, ◌∙◌, arith, length-append, append-nil}
+use Rattle.std.proofs.Common.{◌≡◌, ◌⊎◌, inl, inr, ℕ, ◌≤◌, Bool, true, false, cond, nat_lt, Option, Some, None, List, [], ◌++◌, length, take, ap, refl, ◌∙◌, arith, length-append, append-nil}
 use Rattle.std.proofs.lemmas.Bool.Decides.{nat_tests}
 use Rattle.ccp_base.specs.Limits.{most_flows, most_input_bytes}
 use Rattle.reply_frames.specs.declared.outline.Version.{Version}
