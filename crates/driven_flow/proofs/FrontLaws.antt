@@ -1,5 +1,5 @@
 -- That a stream is divided at its first line `---`.
-use Rattle.std.proofs.Common.{◌≡◌, ◌⊎◌, inl, inr, ℕ, ◌+◌, ◌≤◌, Bool, true, false, Some, None, List, [], ◌∷◌, ◌++◌, length, refl, ap, sym, subst, ◌∙◌, arith, append_assoc, append-nil, length-append}
+use Rattle.std.proofs.Common.{◌≡◌, ◌⊎◌, inl, inr, ℕ, ◌+◌, Bool, true, false, Some, None, List, [], ◌∷◌, ◌++◌, length, refl, ap, sym, subst, ◌∙◌, arith, append_assoc, append-nil, length-append}
 use Rattle.std.proofs.lemmas.Option.{same_Some, none-some}
 use Rattle.std.proofs.lemmas.Bool.Decides.{nat_tests}
 use Rattle.ccp_base.specs.declared.parts.Separator.TheVariants.{LineFeed}
@@ -42,7 +42,11 @@ separated-from line (byte ∷ bytes) text rest is = go (separated-from [] bytes)
         subst (λ (q : List ℕ × List ℕ). HasSeparator (line ++ byte ∷ bytes) q.0 q.1) (same_Some (front ++ p.0, p.1) (text, rest) is) (record {
           line = there.line;
           separator = there.separator;
-          whole = sym (append_assoc line (byte ∷ []) bytes) ∙ ap (λ xs. front ++ xs) there.whole ∙ sym (append_assoc front p.0 (there.line ++ 10 ∷ p.1));
+          whole =
+              sym (append_assoc line (byte ∷ []) bytes)
+              ∙ ap (λ xs. front ++ xs) there.whole
+              ∙ sym (append_assoc front (p.0 ++ there.line) (10 ∷ p.1))
+              ∙ ap (λ xs. xs ++ 10 ∷ p.1) (sym (append_assoc front p.0 there.line));
           ended = ended-both front p.0 (ended-feed line byte ∙ feed) there.ended;
         })
 
@@ -120,12 +124,15 @@ divided-at-first bytes text rest has = go (divided text) refl
     after : List ℕ
     after = has.line ++ 10 ∷ rest
 
+    whole : bytes ≡ text ++ after
+    whole = has.whole ∙ append_assoc text has.line (10 ∷ rest)
+
     go : (parted : Parted) → divided text ≡ parted → DividesBy bytes text
     go None none = record {
       first = text;
       rest = rest;
       divided_is =
-          ap divided has.whole
+          ap divided whole
           ∙ past-text text after none has.ended
           ∙ ap (with_front text) (at-line has.line rest has.separator)
           ∙ ap (λ xs. Some (xs, rest)) (append-nil text);
@@ -133,10 +140,10 @@ divided-at-first bytes text rest has = go (divided text) refl
     }
     go (Some p) is =
         let there = separated-from [] text p.0 p.1 is in
-        let count : length text ≡ length p.0 + length (there.line ++ 10 ∷ p.1) = ap length there.whole ∙ length-append p.0 (there.line ++ 10 ∷ p.1) in
+        let count : length text ≡ length (p.0 ++ there.line) + length (10 ∷ p.1) = ap length there.whole ∙ length-append (p.0 ++ there.line) (10 ∷ p.1) in
         record {
           first = p.0;
           rest = p.1 ++ after;
-          divided_is = ap divided has.whole ∙ goes-further [] text after p.0 p.1 is;
-          no_later = omega (arith, count);
+          divided_is = ap divided whole ∙ goes-further [] text after p.0 p.1 is;
+          no_later = omega (arith, count, length-append p.0 there.line);
         }

@@ -1,5 +1,5 @@
 -- Lines of a scenario's text: what follows bytes without a line feed, and what ends the text.
-use Rattle.std.proofs.Common.{◌≡◌, ◌≢◌, ◌⊎◌, inl, inr, ℕ, zero, suc, ◌+◌, ◌<◌, ◌≤◌, Bool, true, false, Option, Some, None, option_map, List, [], ◌∷◌, ◌++◌, length, take, drop, slice_index, refl, ap, sym, subst, ◌∙◌, arith, cond, if◌then◌else◌, eqb, append_assoc, append-nil, length-append, take-append-drop}
+use Rattle.std.proofs.Common.{◌≡◌, ◌≢◌, ◌⊎◌, inl, inr, ℕ, zero, suc, ◌<◌, ◌≤◌, Bool, true, false, Option, Some, None, List, [], ◌∷◌, ◌++◌, length, take, drop, slice_index, refl, ap, sym, ◌∙◌, arith, cond, if◌then◌else◌, eqb, append_assoc, append-nil, length-append, take-append-drop}
 use Rattle.std.proofs.Math.Seq.{take-length}
 use Rattle.std.proofs.lemmas.Option.{same_Some, none-some}
 use Rattle.std.proofs.lemmas.Slice.Eq.{bytes_eq-Decides, starts_is}
@@ -10,8 +10,8 @@ use Rattle.ccp_base.specs.declared.parts.Separator.TheVariants.{LineFeed}
 use Rattle.ccp_base.specs.Parts.{separates, without_last}
 use Rattle.fold_run.specs.FirstPart.{first_of}
 use Rattle.fold_run.specs.Separated.{is_separator}
-use Rattle.driven_flow.specs.Front.{with_front, divided_from, divided, DividedGoesOn}
-use Rattle.driven_flow.specs.FrontLines.{longest_separator, IsOther, IsWithinLine, EndsText, GoesOn, CanEnd, IsUndecided}
+use Rattle.driven_flow.specs.Front.{with_front, divided_from, DividedGoesOn}
+use Rattle.driven_flow.specs.FrontLines.{longest_separator, IsOther, EndsText, GoesOn, IsUndecided}
 
 abbrev pub Parted : Type 0
 Parted = Option (List ℕ × List ℕ)

@@ -1,5 +1,5 @@
 -- How far the reading of a scenario's text has come, and how it ends.
-use Rattle.std.proofs.Common.{rules, ◌≡◌, ◌⊎◌, inl, inr, ℕ, ◌+◌, ◌-◌, ◌<◌, ◌≤◌, Bool, true, false, Some, None, Result, Err, List, [], ◌∷◌, ◌++◌, length, take, drop, refl, ap, sym, subst, ◌∙◌, arith, append_assoc, append-nil, length-append, length-drop, length-take, take-append-drop}
+use Rattle.std.proofs.Common.{rules, ◌≡◌, ◌⊎◌, inl, inr, ℕ, ◌+◌, ◌-◌, ◌<◌, ◌≤◌, Bool, true, false, Some, None, Result, Err, List, [], ◌++◌, length, take, drop, refl, ap, sym, subst, ◌∙◌, arith, append_assoc, append-nil, length-append, length-drop, take-append-drop}
 use Rattle.std.proofs.lemmas.List.{length-take-le}
 use Rattle.ccp_base.specs.Outside.{Known, Rose, Takes, IsAtEnd, Takes-append}
 use Rattle.ccp_base.specs.Limits.{most_frame_bytes, most_input_bytes}
@@ -46,6 +46,7 @@ reading-ends source source' before now text rest rest' inside count r ends left 
       within = within;
       eaten_is = omega (arith, behind, counted.0, counted.1, length-append text rest);
       short = omega (arith, behind, counted.0, counted.1, few);
+      few = omega (arith, within, few, length-append text rest);
     }
 
 -- bytes that go on are moved to the text
@@ -101,7 +102,7 @@ reading-long source source' before now text rest inside r long few = record {
       let same : (text ++ rest) ++ more ≡ text ++ (rest ++ more) = append_assoc text rest more in
       let less : length text ≤ length (front_in (text ++ (rest ++ more)) (with_front r.whole (divided_from r.line (rest ++ more)))) = front-long source source' text rest inside r (rest ++ more) (divided_from r.line (rest ++ more)) refl in
       let here : length text ≤ length (front_in (text ++ (rest ++ more)) (divided (text ++ (rest ++ more)))) =
-          subst (λ (parted : Parted). length text ≤ length (front_in (text ++ (rest ++ more)) parted)) (sym (r.goes (rest ++ more))) less in
+      subst (λ (parted : Parted). length text ≤ length (front_in (text ++ (rest ++ more)) parted)) (sym (r.goes (rest ++ more))) less in
       subst IsOverlong (sym same) (omega (arith, here, long)));
 }
 
@@ -123,7 +124,7 @@ reading-open source source' text rest inside r undecided within = go undecided.c
         }
     go (inr can) =
         let all : divided ((text ++ rest) ++ can.more) ≡ Some (r.whole ++ [], []) =
-            ap divided (append_assoc text rest can.more) ∙ r.goes (rest ++ can.more) ∙ ap (with_front r.whole) can.ends in
+        ap divided (append_assoc text rest can.more) ∙ r.goes (rest ++ can.more) ∙ ap (with_front r.whole) can.ends in
         let front : front_in ((text ++ rest) ++ can.more) (divided ((text ++ rest) ++ can.more)) ≡ r.whole ++ [] = ap (front_in ((text ++ rest) ++ can.more)) all in
         record {
           none = none;
@@ -175,6 +176,7 @@ reading-fails source source' source'' before middle now text rest rest' inside r
     fails ReadFailed (rose, same) = record {
       bytes = text ++ rest;
       taken = there same;
+      few = omega (arith, within, few, length-append text rest);
       rose = rose-late before middle now less rose more;
       not_over = open_there;
     }

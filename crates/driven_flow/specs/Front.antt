@@ -12,11 +12,12 @@ use Rattle.driven_flow.specs.declared.front.FrontFault.TheVariants.{TooLong, NoS
 
 -- ---- where the scenario ends
 
--- a text and what follows the line below it, with more bytes at the text's front
+-- a text and a rest, with more bytes at the text's front
 abbrev pub with_front : List ℕ → Option (List ℕ × List ℕ) → Option (List ℕ × List ℕ)
 with_front front = option_map (λ (text, rest). (front ++ text, rest))
 
--- the bytes before the first line `---` and the bytes after its line feed, where a line has begun with the first bytes
+-- how bytes divide after the first bytes of a line: at its line feed if the line is `---`; else the line is text, and
+-- the next one begins
 abbrev pub divided_from : List ℕ → List ℕ → Option (List ℕ × List ℕ)
 divided_from line [] = None
 divided_from line (byte ∷ rest) =
@@ -28,20 +29,23 @@ divided_from line (byte ∷ rest) =
 abbrev pub divided : List ℕ → Option (List ℕ × List ℕ)
 divided bytes = divided_from [] bytes
 
--- the bytes before the first line `---`, or all without one
 abbrev pub front_in : List ℕ → Option (List ℕ × List ℕ) → List ℕ
 front_in bytes None = bytes
 front_in bytes (Some (text, rest)) = text
 
+-- the bytes before the first line `---`, or all without one
+abbrev pub front_of : List ℕ → List ℕ
+front_of bytes = front_in bytes (divided bytes)
+
 -- more bytes than the limit come before the first line `---`, or without one
 abbrev pub IsOverlong : List ℕ → Type 0
-IsOverlong bytes = most_input_bytes < length (front_in bytes (divided bytes))
+IsOverlong bytes = most_input_bytes < length (front_of bytes)
 
--- no line `---` is there yet, and more may follow with which the bytes aren't too many
+-- no line `---` is there yet, and bytes can follow with which no more than the limit come before it, or without it
 pub record IsOpen (bytes : List ℕ) : Type 0 where
   pub none : divided bytes ≡ None
   pub more : List ℕ
-  pub within : length (front_in (bytes ++ more) (divided (bytes ++ more))) ≤ most_input_bytes
+  pub within : length (front_of (bytes ++ more)) ≤ most_input_bytes
 
 -- ---- what the call has taken
 
@@ -53,7 +57,7 @@ AllowsFront {D = D} remaining written is_finished Follows MayRead begin = (now :
     → Follows begin now → Takes (remaining begin) (remaining now) taken → written now ≡ written begin
     → (is_finished begin → is_finished now) → IsOpen taken → MayRead now
 
--- the text, the line `---` and the rest were taken, and the text isn't too long
+-- the text, the line `---` and the rest were taken; `eaten` bytes come before the rest
 pub record IsDivided (source : Stream) (text rest : List ℕ) (eaten : ℕ) : Type 0 where
   pub bytes : List ℕ
   pub taken : Takes source.old source.new bytes
@@ -61,8 +65,9 @@ pub record IsDivided (source : Stream) (text rest : List ℕ) (eaten : ℕ) : Ty
   pub within : length text ≤ most_input_bytes
   pub eaten_is : eaten + length rest ≡ length bytes
   pub short : length rest < most_frame_bytes
+  pub few : length bytes ≤ most_input_bytes + most_frame_bytes
 
--- what was taken is too long where the input ends there, or whatever follows
+-- what was taken is too long: as the source ends there, or whatever follows
 pub record IsTooLong (source : Stream) : Type 0 where
   pub bytes : List ℕ
   pub taken : Takes source.old source.new bytes
@@ -81,6 +86,7 @@ pub record HasNoSeparator (source : Stream) : Type 0 where
 pub record FailsToReadFront (source : Stream) : Type 0 where
   pub bytes : List ℕ
   pub taken : Takes source.old source.new bytes
+  pub few : length bytes ≤ most_input_bytes + most_frame_bytes
   pub rose : Rose source.before source.now
   pub not_over : IsOpen bytes
 

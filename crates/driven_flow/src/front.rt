@@ -60,7 +60,11 @@ enum Line {
 /// the bytes come. The bytes of the last piece after that LF stay in the rest, which must be empty before; they are
 /// fewer than the 8,596 of the longest frame. A line `---` that no LF ends doesn't count. Nothing is written, and at
 /// most 1,057,172 bytes are taken: the longest text and the longest frame.
-pub fn read_front<D: Duplex>(alloc: Global, duplex: &mut D, rest: &mut Rest) -> Result<Front, FrontFault>
+pub fn read_front<D: Duplex>(
+    alloc: Global,
+    duplex: &mut D,
+    rest: &mut Rest,
+) -> Result<Front, FrontFault>
     requires empty { rest.old ≡ [] }
     requires allowed { AllowsFront D.remaining D.written D.is_finished D.Follows D.MayRead duplex.old }
     ensures follows { D.Follows duplex.old duplex.new }
@@ -68,7 +72,7 @@ pub fn read_front<D: Duplex>(alloc: Global, duplex: &mut D, rest: &mut Rest) -> 
     ensures write_faults { D.write_faults duplex.new ≡ D.write_faults duplex.old }
     ensures finished { D.is_finished duplex.old → D.is_finished duplex.new }
     ensures reads { D.read_faults duplex.old ≤ D.read_faults duplex.new }
-    ensures read { IsFrontRead
+    ensures front { IsFrontRead
         (stream (D.remaining duplex.old) (D.remaining duplex.new)
         (D.read_faults duplex.old) (D.read_faults duplex.new)) rest.new result }
 {
@@ -79,7 +83,11 @@ pub fn read_front<D: Duplex>(alloc: Global, duplex: &mut D, rest: &mut Rest) -> 
 
 /// Reads up to the LF of the first line `---`, appends what comes before the line to the empty text, and returns how
 /// many bytes came up to that LF, with it.
-fn read_text<D: Duplex>(duplex: &mut D, rest: &mut Rest, text: &mut Bytes) -> Result<usize, FrontFault>
+fn read_text<D: Duplex>(
+    duplex: &mut D,
+    rest: &mut Rest,
+    text: &mut Bytes,
+) -> Result<usize, FrontFault>
     requires empty { rest.old ≡ [] }
     requires none { text.old ≡ [] }
     requires allowed { AllowsFront D.remaining D.written D.is_finished D.Follows D.MayRead duplex.old }
@@ -174,8 +182,8 @@ fn move_front(rest: &mut Rest, text: &mut Bytes, count: usize) -> Result<(), Fro
     }
 }
 
-/// Reads a piece after this many bytes of text. At the source's end it says what is wrong with text and rest, which
-/// have no line `---`.
+/// Reads a piece into the rest, behind a text of `text` bytes. At the source's end there is no line `---`, and text
+/// and rest may be too long without one.
 fn read_more<D: Duplex>(duplex: &mut D, rest: &mut Rest, text: usize) -> Result<(), FrontFault>
     requires few { length rest.old < most_frame_bytes }
     requires within { text ≤ most_input_bytes }
@@ -192,6 +200,7 @@ fn read_more<D: Duplex>(duplex: &mut D, rest: &mut Rest, text: usize) -> Result<
     match rest.read(duplex, ROOM) {
         Piece::Bytes(_) => Ok(()),
         Piece::End if text + left <= LIMIT => Err(FrontFault::NoSeparator),
+        // Further doesn't come, since there is room.
         Piece::End | Piece::Further => Err(FrontFault::TooLong),
         Piece::Failed => Err(FrontFault::ReadFailed),
     }
@@ -203,5 +212,4 @@ pub fn front_law()
     ensures at_separator { DividedAtSeparator }
     ensures at_first { DividedAtFirst }
     ensures goes_on { DividedGoesOn }
-{
-}
+{}

@@ -1,7 +1,6 @@
-use Rattle.std.proofs.Common.{◌≡◌, ℕ, ◌+◌, ◌≤◌, Err, List, ◌++◌, length, take, true, false, ap, sym, subst, ◌∙◌, arith, length-append}
+use Rattle.std.proofs.Common.{◌≡◌, ℕ, ◌+◌, ◌≤◌, Err, List, ◌++◌, length, take, true, false, ap, subst, ◌∙◌, arith, length-append}
 use Rattle.std.proofs.lemmas.List.{length-take-le}
 use Rattle.std.proofs.lemmas.Result.{err_from_is_err_and}
-use Rattle.ccp_base.specs.Limits.{most_input_bytes}
 use Rattle.driven_flow.specs.FrontLines.{IsUndecided, GoesOn, IsMore}
 use Rattle.driven_flow.proofs.FrontReading.{reading-moves, reading-stops, reading-open, reading-more, reading-fails, text-fails}
 use Rattle.driven_flow.proofs.front.read_text.Goals as goal
