@@ -1,5 +1,5 @@
 -- Labels of agents outside: only how many there are matters.
-use Rattle.std.proofs.Common.{◌≡◌, ℕ, List, [], ◌∷◌, length, map, refl, arith}
+use Rattle.std.proofs.Common.{◌≡◌, List, [], ◌∷◌, length, map, refl, arith}
 use Rattle.live_lines.specs.declared.labels.Own.{Own}
 use Rattle.live_lines.specs.FlowLabels.{own}
 

@@ -1,5 +1,5 @@
 //! The table of a campaign, a line for each case and the total, and the total of a generated campaign.
-ghost use Rattle.std.specs.Prelude.{◌≡◌, ◌≤◌, ◌++◌, IfOk, OnOk, codes, length, map};
+ghost use Rattle.std.specs.Prelude.{◌≡◌, ◌≤◌, ◌++◌, IfOk, OnOk, length, map};
 ghost use Rattle.ccp_base.specs.Limits.{most_cases};
 ghost use Rattle.campaign_report.specs.TableText.{after_space, heading, headings, row_head, row_line, row_lines, soak_head, soak_text};
 ghost use Rattle.campaign_report.specs.TableText.{labelled_table, own_table_text, table_text, values};

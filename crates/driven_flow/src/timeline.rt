@@ -51,6 +51,7 @@ impl<'p> Places for DrivenFlow<'p> {
     }
 }
 
+/// Appends the lines of tickets, numbered from 0, each with its answer as the reply.
 fn put_tickets(
     text: &mut Bytes,
     programs: &[(u32, Built)],

@@ -1,6 +1,6 @@
 //! The first line of a flow: its number, the name of its case, and the word for its agent.
 ghost use Rattle.std.specs.Prelude.{◌≡◌, ◌++◌, OnOk};
-ghost use Rattle.flow_core.specs.LiveText.{agent_text, flow_line};
+ghost use Rattle.flow_core.specs.LiveText.{flow_line};
 ghost use Rattle.live_lines.specs.FlowLabels.{labelled_line};
 
 use crate::labels::Label;

@@ -3,12 +3,12 @@ ghost use Rattle.std.specs.Prelude.{◌≡◌, ℕ, List};
 
 use agent_core::Agent;
 
-/// What a text has a word for, in an agent's place.
+/// What stands in an agent's place in the texts of flows.
 pub trait Label {
-    /// The word.
+    /// The word that is shown for it.
     ghost word: { Self → List ℕ };
 
-    /// The word.
+    /// The word that is shown for it.
     fn label(&self) -> &'static str
         ensures { result.now ≡ word self.now };
 }
@@ -24,7 +24,7 @@ impl Label for Agent {
     }
 }
 
-/// An agent outside: the user's own.
+/// An agent outside `ccp`: the user's own.
 #[derive(Clone, Copy)]
 pub struct Own;
 
