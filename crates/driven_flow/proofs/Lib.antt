@@ -6,3 +6,5 @@ pub mod StateLemmas
 pub mod DrivenLiftLemmas
 pub mod ReplyLemmas
 pub mod AgentLemmas
+pub mod SpanLemmas
+pub mod SessionLemmas

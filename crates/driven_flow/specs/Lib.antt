@@ -1,9 +1,12 @@
 -- The definitions of driven_flow, a file each.
 
--- those that contracts of public calls cite: a driven flow's state after its word, and that of an agent's flow
+-- those that contracts of public calls cite: a driven flow's state after its word, that of an agent's
+-- flow, and a session of flows
 pub mod Driven
 pub mod AgentLaw
+pub mod Session
 -- those that only private contracts, invariants and proofs cite
 pub mod DrivenParts
 pub mod DrivenJournals
 pub mod DrivenStates
+pub mod SessionHolds

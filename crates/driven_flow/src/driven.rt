@@ -4,6 +4,7 @@ ghost use Rattle.ccp_base.specs.FieldReg.{first_bad_pair};
 ghost use Rattle.driven_flow.specs.Driven.{code_in, is_known, is_known_for, bad_in, MayMake, told_out, world_by, flow_by};
 ghost use Rattle.driven_flow.specs.Driven.{present_of, after_next, after_given, left_of, peak_by};
 ghost use Rattle.driven_flow.specs.Driven.{ReadsAlike};
+ghost use Rattle.driven_flow.specs.Session.{IsShort};
 ghost use Rattle.driven_flow.specs.AgentLaw.{IsOfCase, IsAgentFlow};
 ghost use Rattle.campaign_core.specs.CampaignWord.{next_of};
 ghost use Rattle.campaign_core.specs.CampaignRow.{row_over};
@@ -189,7 +190,8 @@ impl<'p> DrivenFlow<'p> {
 
     /// The number of the program that runs.
     pub fn program(&self) -> u32
-        ensures { result ≡ present_of self.now }
+        ensures program { result ≡ present_of self.now }
+        ensures known { is_known self.now.programs result ≡ true }
     {
         self.state.parts.epoch.program
     }
@@ -206,7 +208,8 @@ impl<'p> DrivenFlow<'p> {
 
     /// What the ticket that is out tells, if one is out.
     pub fn told_out(&self) -> Option<Told>
-        ensures { result ≡ told_out (flow_by self.now) (world_by self.now) }
+        ensures told { result ≡ told_out (flow_by self.now) (world_by self.now) }
+        ensures short { IfSome result IsShort }
     {
         self.state.parts.told_out()
     }

@@ -6,11 +6,17 @@ mod case;
 mod driven;
 mod journal;
 mod machine_calls;
+mod messages;
 mod parts;
 mod programs;
+mod refusal;
+mod running;
+mod session;
 mod state;
 
 pub use answer::Answer;
 pub use case::DrivenCase;
 pub use driven::DrivenFlow;
 pub use programs::{first_bad, is_known};
+pub use refusal::Refusal;
+pub use session::Session;
