@@ -1,5 +1,6 @@
 -- The driven flows of cases, one after another, as an agent's frames drive them: what each frame is answered.
 use Rattle.std.specs.Prelude.{ℕ, zero, suc, ◌<◌, ◌^◌, ◌==◌, Bool, false, nat_lt, if◌then◌else◌, is_some, Result, Ok, Err}
+use Rattle.driven_flow.specs.Driven.{Codes}
 use Rattle.std.specs.Prelude.{Option, Some, None, option_map, unwrap_or, List, [], ◌∷◌, ◌++◌, length}
 use Rattle.ccp_base.specs.FieldReg.{Pair, first_bad_pair}
 use Rattle.ccp_base.specs.Limits.{most_kept_programs, most_short_fields}
@@ -13,7 +14,6 @@ use Rattle.ccp_messages.specs.declared.reason.Reason.{Reason}
 use Rattle.ccp_messages.specs.declared.reason.Reason.TheVariants.{NoFlow, ProgramAbove, NoProgram, NoRegister}
 use Rattle.feed_core.specs.Feed.{Answer}
 use Rattle.reg_code.specs.declared.code.Code.{Code}
-use Rattle.reg_compiler.specs.declared.built.Built.{Built}
 use Rattle.campaign_core.specs.CampaignWord.{next_of}
 use Rattle.flow_core.specs.declared.letter.Letter.{Letter}
 use Rattle.flow_core.specs.declared.letter.Letter.TheVariants.{A, T, C}
@@ -26,13 +26,13 @@ use Rattle.driven_flow.specs.Driven.{told_out, present_of, left_of}
 -- and the cases whose flows have not begun; where no flow waits for an answer, the first of these cases waits for its
 -- flow's first change
 pub record SessionState : Type 0 where
-  pub programs : List (ℕ × Built)
+  pub programs : Codes
   pub ended : List DrivenState
   pub flow : Option DrivenState
   pub left : List DrivenCase
 
 -- before the first frame
-abbrev pub opening : List (ℕ × Built) → List DrivenCase → SessionState
+abbrev pub opening : Codes → List DrivenCase → SessionState
 opening programs cases = record { programs = programs; ended = []; flow = None; left = cases }
 
 -- ---- what flows say
@@ -81,7 +81,7 @@ abbrev pub refused : Reason → ℕ → Refusal
 refused reason index = record { reason = reason; index = index }
 
 -- the program that the values of a change or an update are for, where this one runs, if any does
-abbrev pub program_meant : List (ℕ × Built) → (running changed : Option ℕ) → Result ℕ Refusal
+abbrev pub program_meant : Codes → (running changed : Option ℕ) → Result ℕ Refusal
 program_meant programs running (Some program) =
     if nat_lt program most_kept_programs
     then (if is_known programs program then Ok program else Err (refused NoProgram program))
@@ -90,7 +90,7 @@ program_meant programs (Some running) None = Ok running
 program_meant programs None None = Err (refused NoProgram 0)
 
 -- none of the values may name a control variable that their program doesn't have
-abbrev pub values_refusal : List (ℕ × Built) → List Pair → Result ℕ Refusal → Option Refusal
+abbrev pub values_refusal : Codes → List Pair → Result ℕ Refusal → Option Refusal
 values_refusal programs values (Err refusal) = Some refusal
 values_refusal programs values (Ok program) =
     option_map (refused NoRegister) (first_bad_pair (length (code_in programs program).controls) values)
@@ -137,7 +137,7 @@ run_on given flow = run_for (left_of flow) given flow
 -- ---- a frame
 
 -- a flow after its first change, before its first letter
-abbrev pub begun : List (ℕ × Built) → DrivenCase → Given → DrivenState
+abbrev pub begun : Codes → DrivenCase → Given → DrivenState
 begun programs case given = record {
   case = case;
   programs = programs;

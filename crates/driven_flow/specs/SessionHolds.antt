@@ -1,12 +1,12 @@
 -- What holds of a session between frames, and of a frame that was accepted.
 use Rattle.std.specs.Prelude.{◌≡◌, ℕ, ◌≤◌, true, is_some, Option, Some, None, unwrap_or, List}
+use Rattle.driven_flow.specs.Driven.{Codes}
 use Rattle.flow_core.specs.declared.letter.Letter.TheVariants.{C}
-use Rattle.reg_compiler.specs.declared.built.Built.{Built}
 use Rattle.driven_flow.specs.Driven.{Given, DrivenState, is_known_for, bad_in, MayMake, present_of, left_of}
 use Rattle.driven_flow.specs.Session.{SessionState, running, run_for, run_on}
 
 -- the flow has these programs
-abbrev pub HasPrograms : List (ℕ × Built) → Option DrivenState → Type 0
+abbrev pub HasPrograms : Codes → Option DrivenState → Type 0
 HasPrograms programs None = Unit {0}
 HasPrograms programs (Some flow) = flow.programs ≡ programs
 

@@ -17,6 +17,6 @@ mod state;
 pub use answer::Answer;
 pub use case::DrivenCase;
 pub use driven::DrivenFlow;
-pub use programs::{first_bad, is_known};
+pub use programs::{Programs, first_bad, is_known};
 pub use refusal::Refusal;
 pub use session::Session;

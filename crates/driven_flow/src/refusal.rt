@@ -3,9 +3,8 @@ ghost use Rattle.std.specs.Prelude.{◌≡◌, true, None, Some, IfOk, IfSome};
 ghost use Rattle.driven_flow.specs.Driven.{is_known};
 ghost use Rattle.driven_flow.specs.Session.{program_meant};
 
-use crate::programs::is_known;
+use crate::programs::{Programs, is_known};
 use ccp_messages::Reason;
-use reg_compiler::Built;
 
 /// The most programs that a frame can name: 0 to 15.
 const PROGRAMS: u32 = 16;
@@ -21,7 +20,7 @@ pub struct Refusal {
 /// The program that the values of a change or an update are for, where `running` runs, if any program does: `changed`,
 /// or the running one if it is no change.
 pub(crate) fn program_meant(
-    programs: &[(u32, Built)],
+    programs: &Programs,
     running: Option<u32>,
     changed: Option<u32>,
 ) -> Result<u32, Refusal>
@@ -39,7 +38,7 @@ pub(crate) fn program_meant(
 }
 
 /// The program with this number, if a change can name it.
-fn program_changed(programs: &[(u32, Built)], program: u32) -> Result<u32, Refusal>
+fn program_changed(programs: &Programs, program: u32) -> Result<u32, Refusal>
     ensures meant { result ≡ program_meant programs.now None (Some program) }
     ensures known { IfOk result (λ program. is_known programs.now program ≡ true) }
 {

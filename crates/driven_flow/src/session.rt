@@ -6,13 +6,12 @@ use crate::answer::Answer;
 use crate::case::DrivenCase;
 use crate::driven::DrivenFlow;
 use crate::messages::message_of;
-use crate::programs::first_bad;
+use crate::programs::{Programs, first_bad};
 use crate::refusal::{Refusal, program_meant};
 use crate::running::run_on;
 use ccp_base::{Ack, NoMemory, Sequence};
 use ccp_messages::{Message, Reason};
 use feed_core::Answerer;
-use reg_compiler::Built;
 use reply_frames::Version;
 use std::alloc::Global;
 use std::collections::VecDeque;
@@ -21,7 +20,7 @@ use std::marker::Model;
 /// The driven flows of cases, each to its end before the next begins, as the frames of an agent outside drive them.
 #[derive(Drop)]
 pub struct Session<'p> {
-    programs: &'p [(u32, Built)],
+    programs: &'p Programs<'p>,
     ended: Sequence<DrivenFlow<'p>>,
     /// The flow that waits for the answer to its ticket.
     flow: Option<DrivenFlow<'p>>,
@@ -46,13 +45,13 @@ impl<'p> Model for Session<'p> {
 }
 
 impl<'p> Session<'p> {
-    ghost use Rattle.driven_flow.specs.Driven.{is_known, ReadsAlike};
+    ghost use Rattle.driven_flow.specs.Driven.{is_known, ReadsAsSources};
     ghost use Rattle.driven_flow.specs.Session.{opening, first_frame, created, waiting, waits, running, refusal, turned};
     ghost use Rattle.driven_flow.specs.Session.{gone_on, stopped, with_ended, accepted, heard, hear, reported};
     ghost use Rattle.driven_flow.specs.SessionHolds.{IsAccepted, CanGoOn};
 
     /// A session of these programs, each with its number, and of these cases, before its first frame.
-    pub fn begin(alloc: Global, programs: &'p [(u32, Built)], cases: Sequence<DrivenCase>) -> Self
+    pub fn begin(alloc: Global, programs: &'p Programs<'p>, cases: Sequence<DrivenCase>) -> Self
         ensures { result ≡ opening programs.now cases }
     {
         Session {
