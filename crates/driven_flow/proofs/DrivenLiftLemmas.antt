@@ -35,7 +35,7 @@ use Rattle.flow_core.specs.World.{Failure, Content, of_report, of_failure, Era, 
 use Rattle.flow_core.proofs.SimulatedEpochs.{met_placed, heard-simulated, after-simulated, IsEnvOf-after, declared-simulated}
 use Rattle.flow_core.proofs.PlacedParts.{take-lifts, can-placed, failures-placed, reports-placed, held-placed, untold-placed}
 use Rattle.driven_flow.specs.declared.case.DrivenCase.{DrivenCase}
-use Rattle.driven_flow.specs.Driven.{Given, code_in, over_codes, over_sources, with_values_given, with_answer, answered_by, after_letter, world_from, peak_from, initial_window, begun, DrivenState, places_of, placed_in, ReadsAlike}
+use Rattle.driven_flow.specs.Driven.{Given, Codes, codes_of, code_in, over_codes, over_sources, with_values_given, with_answer, answered_by, after_letter, world_from, peak_from, initial_window, begun, DrivenState, places_in, placed_in, ReadsAlike, ReadsAsSources}
 use Rattle.driven_flow.proofs.StateLemmas.{answered_now, shut}
 
 -- ---- programs by their numbers
@@ -50,17 +50,17 @@ simulates-where true built form code places simulates = built.simulates
 simulates-where false built form code places simulates = simulates
 
 simulates-all : (programs : List (ℕ × Built)) (number : ℕ)
-    → Simulates (source_at (sources_of programs) number) (code_in programs number) (places_of programs number)
+    → Simulates (source_at (sources_of programs) number) (code_in (codes_of programs) number) (places_in programs number)
 simulates-all [] number = empty-simulates number
 simulates-all (program ∷ rest) number =
-    simulates-where (program.0 == number) program.1 (source_at (sources_of rest) number) (code_in rest number) (places_of rest number)
+    simulates-where (program.0 == number) program.1 (source_at (sources_of rest) number) (code_in (codes_of rest) number) (places_in rest number)
     (simulates-all rest number)
 
 -- ---- the two readings
 
 module _ (programs : List (ℕ × Built)) (case : DrivenCase) where
   abbrev codes : Flow ℕ
-  codes = over_codes programs case
+  codes = over_codes (codes_of programs) case
 
   abbrev sources : Flow Place
   sources = over_sources (sources_of programs) case
@@ -78,7 +78,7 @@ module _ (programs : List (ℕ × Built)) (case : DrivenCase) where
   -- the present epoch stands as it does over the source
   track-lifts : (era : Era) → Shaped era → track_in codes era ≡ track_in sources era
   track-lifts era shape =
-      after-simulated (form_at era.program) (code_in programs era.program) (places_of programs era.program) (simulates-all programs era.program)
+      after-simulated (form_at era.program) (code_in (codes_of programs) era.program) (places_in programs era.program) (simulates-all programs era.program)
       era.events (track_at era.at era.first) shape
 
   IsEnvOf-track : (era : Era) → Shaped era → IsEnvOf (form_at era.program) (track_in codes era).env
@@ -98,7 +98,7 @@ module _ (programs : List (ℕ × Built)) (case : DrivenCase) where
       → era_of codes program at values cwnd rate now ≡ era_of sources program at values cwnd rate now
   era-lifts program at values cwnd rate now =
       ap (λ (env : Env). era_at program at (with_values values env))
-      (declared-simulated (form_at program) (code_in programs program) (places_of programs program) (simulates-all programs program) cwnd rate now)
+      (declared-simulated (form_at program) (code_in (codes_of programs) program) (places_in programs program) (simulates-all programs program) cwnd rate now)
 
   Shaped-era : (program at : ℕ) (values : List Pair) (cwnd rate now : ℕ) → Shaped (era_of codes program at values cwnd rate now)
   Shaped-era program at values cwnd rate now =
@@ -135,7 +135,7 @@ module _ (programs : List (ℕ × Built)) (case : DrivenCase) where
       let track = track_of codes w in
       let room = has_room codes w in
       let met = heard (codes.reading program) track.is_stopped track.env ack room in
-      let heards = heard-simulated (form_at program) (code_in programs program) (places_of programs program) (simulates-all programs program)
+      let heards = heard-simulated (form_at program) (code_in (codes_of programs) program) (places_in programs program) (simulates-all programs program)
       track.is_stopped track.env ack room (IsEnvOf-track w.present shape) in
       with_met-lifts ack room track met.0 met.1 w
       ∙ ap (λ (m : Outcome Cause × Env). with_met sources ack room track m (map_world place w)) heards
@@ -288,14 +288,17 @@ module _ (programs : List (ℕ × Built)) (case : DrivenCase) where
 
 -- ---- the law
 
-pub reads-alike : (s : DrivenState) → ReadsAlike s
-reads-alike s =
-    let programs = s.programs in
+-- the same flow with these codes
+abbrev coded_as : Codes → DrivenState → DrivenState
+coded_as codes s = record s { programs = codes }
+
+reads-coded : (programs : List (ℕ × Built)) (s : DrivenState) → ReadsAlike programs (coded_as (codes_of programs) s)
+reads-coded programs s =
     let case = s.case in
-    let first = begun (over_codes programs case) case.link.mss s.program s.values in
+    let first = begun (over_codes (codes_of programs) case) case.link.mss s.program s.values in
     let shape = Shaped-begun programs case case.link.mss s.program s.values in
     let start = begun-lifts programs case case.link.mss s.program s.values in
-    let w = world_from (over_codes programs case) (from_link (over_codes programs case) case.link) s.answers first s.word in
+    let w = world_from (over_codes (codes_of programs) case) (from_link (over_codes (codes_of programs) case) case.link) s.answers first s.word in
     let end = Shaped-world programs case case.link s.answers s.word first shape in
     let state = world-lifts programs case case.link s.answers s.word first shape
     ∙ ap (λ (v : World Place). world_from (over_sources (sources_of programs) case) (from_link (over_sources (sources_of programs) case) case.link) s.answers v s.word) start in
@@ -309,6 +312,9 @@ reads-alike s =
           track-lifts programs case w.present end
           ∙ ap (λ (v : World Place). track_of (over_sources (sources_of programs) case) v) state;
       row =
-          row-lifts programs case w (peak_from (over_codes programs case) (from_link (over_codes programs case) case.link) s.answers first s.word) end
+          row-lifts programs case w (peak_from (over_codes (codes_of programs) case) (from_link (over_codes (codes_of programs) case) case.link) s.answers first s.word) end
           ∙ (λ i. row_over (over_sources (sources_of programs) case) (state i) (peak i));
     }
+
+pub reads-alike : (s : DrivenState) → ReadsAsSources s
+reads-alike s programs same = subst (λ (codes : Codes). ReadsAlike programs (coded_as codes s)) same (reads-coded programs s)

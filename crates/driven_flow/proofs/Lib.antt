@@ -11,3 +11,5 @@ pub mod FrontLineLemmas
 pub mod FrontReading
 pub mod FrontLaws
 mod WorkedDriven
+pub mod SpanLemmas
+pub mod SessionLemmas

@@ -1,5 +1,6 @@
 -- What is kept of a driven flow after each step is the summary after it.
 use Rattle.std.specs.Prelude.{◌≡◌, ℕ, ◌+◌, ◌-◌, ◌<◌, ◌≤◌, Bool, true, false, nat_lt, ◌&&◌, is_none, is_some, Option, Some, None, unwrap_or, List, [], ◌∷◌, ◌++◌, length, drop, refl}
+use Rattle.driven_flow.specs.Driven.{Codes}
 use Rattle.std.proofs.Common.{ap, sym, ◌∙◌, subst, arith, length-append, append-nil}
 use Rattle.std.specs.FinMap as map
 use Rattle.std.specs.Ordering.{nat_cmp}
@@ -16,7 +17,6 @@ use Rattle.portus_core.specs.Epoch.{Outcome, quiet, reported, held, failed, stop
 use Rattle.portus_core.specs.Reports.{report_of}
 use Rattle.reg_code.specs.declared.code.Code.{Code}
 use Rattle.reg_code.specs.CodeStart.{with_values, declared_kept}
-use Rattle.reg_compiler.specs.declared.built.Built.{Built}
 use Rattle.fold_machine.specs.MachineState.{MachineState, Fits}
 use Rattle.fold_machine.specs.Store.{slot_words}
 use Rattle.slot_pool.specs.Pool.{PoolState, words_at, free_of}
@@ -89,7 +89,7 @@ can-be (Some issued) can may = absurd (let wrong : false ≡ true = may in (cc))
 plus-none : (n : ℕ) → n + 0 ≡ n
 plus-none n = omega arith
 
-module _ (programs : List (ℕ × Built)) (case : DrivenCase) (s : Parts) (machine : MachineState) (outbox : OutboxState) (told : Told)
+module _ (programs : Codes) (case : DrivenCase) (s : Parts) (machine : MachineState) (outbox : OutboxState) (told : Told)
     (framed : machine ≡ record s.machine { further = machine.further })
     (is_told : Some told ≡ next_told (reports_in s.machine.further s.outbox.slots) s.outbox.untold)
     (lies : Lies machine.further outbox.slots (drop 1 (reports_in s.machine.further s.outbox.slots)))
@@ -128,7 +128,7 @@ module _ (programs : List (ℕ × Built)) (case : DrivenCase) (s : Parts) (machi
 -- ---- an acknowledgement
 
 -- its parts: the machine runs, what comes of it is noted, and it is counted
-put-parts : (programs : List (ℕ × Built)) (case : DrivenCase) (ack : Ack) (outcome : Outcome (FaultKind × ℕ)) (env : Env) (s : Summary)
+put-parts : (programs : Codes) (case : DrivenCase) (ack : Ack) (outcome : Outcome (FaultKind × ℕ)) (env : Env) (s : Summary)
     → step_outcome (over_codes programs case) ack (outcome, env) s ≡ step_count ack (step_note case.flow ack outcome (step_machine (outcome, env) s))
 put-parts programs case ack quiet env s = λ i. record (step_outcome (over_codes programs case) ack (quiet, env) s) { waiting = append-nil s.waiting i; faults = plus-none s.faults i; held = plus-none s.held i }
 put-parts programs case ack stopped env s = λ i. record (step_outcome (over_codes programs case) ack (stopped, env) s) { waiting = append-nil s.waiting i; faults = plus-none s.faults i; held = plus-none s.held i }
@@ -203,7 +203,7 @@ module _ (flow : ℕ) (s : Parts) (ack : Ack) (machine : MachineState) (outbox :
   }
 
 -- the machine ran an acknowledgement, and its outcome was recorded
-module _ (programs : List (ℕ × Built)) (case : DrivenCase) (s : Parts) (parts : IsParts programs case s) (ack : Ack) where
+module _ (programs : Codes) (case : DrivenCase) (s : Parts) (parts : IsParts programs case s) (ack : Ack) where
   abbrev kept : Summary
   kept = summary_by s
 
@@ -270,7 +270,7 @@ range-closed case s issued out range = record {
   held = range.held;
 }
 
-module _ (programs : List (ℕ × Built)) (case : DrivenCase) where
+module _ (programs : Codes) (case : DrivenCase) where
   summary-obeyed : (s new : Parts) (program : Option ℕ) (values : List Pair) → Obeys programs s new program values
       → summary_by new ≡ step_values (over_codes programs case) program values (summary_by s)
   summary-obeyed s new None values obeys =
@@ -356,7 +356,7 @@ module _ (programs : List (ℕ × Built)) (case : DrivenCase) where
 
 -- ---- the first change
 
-module _ (programs : List (ℕ × Built)) (case : DrivenCase) (program : ℕ) (values : List Pair) (machine : MachineState) (epoch' : RunningEpoch) (outbox : OutboxState)
+module _ (programs : Codes) (case : DrivenCase) (program : ℕ) (values : List Pair) (machine : MachineState) (epoch' : RunningEpoch) (outbox : OutboxState)
     (is : IsFirstMachine programs case program values machine) (is_epoch : epoch' ≡ opening_epoch program 0) (is_outbox : outbox ≡ empty_outbox case.slots) where
   abbrev pub opened : Parts
   opened = record {

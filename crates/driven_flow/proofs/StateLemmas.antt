@@ -1,5 +1,6 @@
 -- One more letter at a driven flow's word: what holds of all that it keeps holds after it.
 use Rattle.std.specs.Prelude.{Result, Ok, Err, OnOk, ◌≡◌, ℕ, ◌+◌, ◌<◌, ◌≤◌, max, true, false, is_some, Option, Some, None, option_map, unwrap_or, List, [], ◌∷◌, ◌++◌, length, map, slice_get, refl}
+use Rattle.driven_flow.specs.Driven.{Codes}
 use Rattle.std.proofs.Common.{arith, ap, sym, ◌∙◌, subst, length-append, append-nil}
 use Rattle.std.proofs.lemmas.Bool.{ltb-true}
 use Rattle.std.proofs.lemmas.List.{map-append}
@@ -40,7 +41,6 @@ use Rattle.driven_flow.specs.declared.case.DrivenCase.{DrivenCase}
 use Rattle.driven_flow.specs.declared.journal.Journal.{Journal}
 use Rattle.driven_flow.specs.declared.parts.Parts.{Parts}
 use Rattle.driven_flow.specs.declared.state.Opened.{Opened}
-use Rattle.reg_compiler.specs.declared.built.Built.{Built}
 use Rattle.driven_flow.specs.Driven.{Given, DrivenState, left_of, begun, with_values_given, with_answer, after_given, answered_by, world_from, peak_from, flow_by, world_by, peak_by, after_next, MayMake, told_out}
 use Rattle.driven_flow.specs.DrivenParts.{summary_by, IsParts, step_values, step_closed, step_out, step_given}
 use Rattle.driven_flow.specs.DrivenJournals.{with_some, journal_ack, journal_take, journal_answer, new_notice, Begins, Records}
@@ -216,7 +216,7 @@ module _ (flow : Flow ℕ) where
 
 -- ---- the first change
 
-pub driven-open : (programs : List (ℕ × Built)) (case : DrivenCase) (program : ℕ) (values : List Pair) (opened : Opened) → IsOpened programs case program values opened
+pub driven-open : (programs : Codes) (case : DrivenCase) (program : ℕ) (values : List Pair) (opened : Opened) → IsOpened programs case program values opened
     → (sums : Sums) (peak : ℕ) → sums ≡ sums_of [] → peak ≡ opened.parts.machine.kept.cwnd
     → IsDriven (record { case = case; programs = programs; program = program; values = values; answers = []; word = [] }) opened.parts opened.link opened.journal sums peak
 driven-open programs case program values opened is sums peak is_sums is_peak =
@@ -239,12 +239,12 @@ driven-open programs case program values opened is sums peak is_sums is_peak =
       greatest = is_peak ∙ ap (λ (s : Summary). s.track.env.cwnd) is.stands;
     }
 
-abbrev pub opened_with : List (ℕ × Built) → DrivenCase → ℕ → List Pair → Journal → DrivenState
+abbrev pub opened_with : Codes → DrivenCase → ℕ → List Pair → Journal → DrivenState
 opened_with programs case program values j =
     record { case = case; programs = programs; program = program; values = values; answers = j.answers.items; word = j.word.items }
 
 -- before the first letter the journal has no answer and no letter
-pub opened-same : (programs : List (ℕ × Built)) (case : DrivenCase) (program : ℕ) (values : List Pair) (line : EpochLine) (j : Journal) → Begins line j
+pub opened-same : (programs : Codes) (case : DrivenCase) (program : ℕ) (values : List Pair) (line : EpochLine) (j : Journal) → Begins line j
     → opened_with programs case program values j
     ≡ record { case = case; programs = programs; program = program; values = values; answers = []; word = [] }
 opened-same programs case program values line j begins =

@@ -1,6 +1,6 @@
 -- A flow whose changes and updates come from outside: how its programs are read, and its state after a word.
 use Rattle.std.specs.Prelude.{◌≡◌, ℕ, ◌==◌, ◌*◌, ◌<◌, max, if◌then◌else◌, Bool, true, false, Option, Some, None, option_map}
-use Rattle.std.specs.Prelude.{List, [], ◌∷◌, ◌++◌, length, slice_get}
+use Rattle.std.specs.Prelude.{List, [], ◌∷◌, ◌++◌, length, map, slice_get}
 use Rattle.std.specs.Option.{ForSome}
 use Rattle.ccp_base.specs.Limits.{most_fields, most_controls}
 use Rattle.ccp_base.specs.FieldReg.{Pair, first_bad_pair}
@@ -31,14 +31,21 @@ use Rattle.driven_flow.specs.declared.answer.Answer.{Answer}
 
 -- ---- its programs
 
+-- the codes of programs, each with its number
+abbrev pub Codes : Type 0
+Codes = List (ℕ × Code)
+
+abbrev pub codes_of : List (ℕ × Built) → Codes
+codes_of programs = map (λ (program : ℕ × Built). (program.0, program.1.code.code)) programs
+
 -- of programs, each with its number, the code of the first one with this number; one without an instruction if there is
 -- none
-abbrev pub code_in : List (ℕ × Built) → ℕ → Code
+abbrev pub code_in : Codes → ℕ → Code
 code_in [] number = record { reports = []; controls = []; events = []; instrs = [] }
-code_in (program ∷ rest) number = if program.0 == number then program.1.code.code else code_in rest number
+code_in (program ∷ rest) number = if program.0 == number then program.1 else code_in rest number
 
 -- one of the programs has this number
-abbrev pub is_known : List (ℕ × Built) → ℕ → Bool
+abbrev pub is_known : Codes → ℕ → Bool
 is_known [] number = false
 is_known (program ∷ rest) number = if program.0 == number then true else is_known rest number
 
@@ -80,7 +87,7 @@ unasked = Reno (record {
 })
 
 -- the flow, read over the codes of its programs
-abbrev pub over_codes : List (ℕ × Built) → DrivenCase → Flow ℕ
+abbrev pub over_codes : Codes → DrivenCase → Flow ℕ
 over_codes programs case = record {
   number = case.flow;
   agent = unasked;
@@ -115,13 +122,13 @@ program_for running None = running
 program_for running (Some program) = program
 
 -- the program that an answer changes to, if it is a change, is one of the programs
-abbrev pub is_known_for : List (ℕ × Built) → Option ℕ → Bool
+abbrev pub is_known_for : Codes → Option ℕ → Bool
 is_known_for programs None = true
 is_known_for programs (Some program) = is_known programs program
 
 -- the place of an answer's first value that names a control variable which the program that its values are for, if this
 -- one runs, doesn't have
-abbrev pub bad_in : List (ℕ × Built) → ℕ → Given → Option ℕ
+abbrev pub bad_in : Codes → ℕ → Given → Option ℕ
 bad_in programs running given =
     first_bad_pair (length (code_in programs (program_for running given.program)).controls) given.values
 
@@ -200,7 +207,7 @@ peak_from flow giving answers w (letter ∷ rest) =
 -- a flow after its first change: its case, its programs, that change, the answers so far and its word
 pub record DrivenState : Type 0 where
   pub case : DrivenCase
-  pub programs : List (ℕ × Built)
+  pub programs : Codes
   pub program : ℕ
   pub values : List Pair
   pub answers : List Given
@@ -245,24 +252,30 @@ left_of s = letters_left (flow_by s) (world_by s)
 -- ---- the state, read over the sources
 
 -- the places of the instructions of the first program with this number; none if there is no such program
-abbrev pub places_of : List (ℕ × Built) → ℕ → List Place
-places_of [] number = []
-places_of (program ∷ rest) number = if program.0 == number then program.1.places else places_of rest number
+abbrev pub places_in : List (ℕ × Built) → ℕ → List Place
+places_in [] number = []
+places_in (program ∷ rest) number = if program.0 == number then program.1.places else places_in rest number
 
 -- by a program's number and an instruction's index, its place
 abbrev pub placed_in : List (ℕ × Built) → Placing
-placed_in programs program = place_at (places_of programs program)
+placed_in programs program = place_at (places_in programs program)
 
-abbrev pub sourced_by : DrivenState → Flow Place
-sourced_by s = over_sources (sources_of s.programs) s.case
+abbrev pub sourced_by : List (ℕ × Built) → DrivenState → Flow Place
+sourced_by programs s = over_sources (sources_of programs) s.case
 
--- over the sources of its programs the flow has the same state, where each fault's instruction stands for its place,
--- and the same greatest window, next letter, track and row
-pub record ReadsAlike (s : DrivenState) : Type 0 where
-  pub state : map_world (placed_in s.programs) (world_by s) ≡ state_by (sourced_by s) s
-  pub peak : peak_by (flow_by s) s ≡ peak_by (sourced_by s) s
-  pub next : next_of (flow_by s) s.case.lag (world_by s) ≡ next_of (sourced_by s) s.case.lag (state_by (sourced_by s) s)
-  pub track : track_of (flow_by s) (world_by s) ≡ track_of (sourced_by s) (state_by (sourced_by s) s)
+-- over the sources of these programs the flow has the same state as over its codes, where each fault's instruction
+-- stands for its place, and the same greatest window, next letter, track and row
+pub record ReadsAlike (programs : List (ℕ × Built)) (s : DrivenState) : Type 0 where
+  pub state : map_world (placed_in programs) (world_by s) ≡ state_by (sourced_by programs s) s
+  pub peak : peak_by (flow_by s) s ≡ peak_by (sourced_by programs s) s
+  pub next : next_of (flow_by s) s.case.lag (world_by s)
+      ≡ next_of (sourced_by programs s) s.case.lag (state_by (sourced_by programs s) s)
+  pub track : track_of (flow_by s) (world_by s)
+      ≡ track_of (sourced_by programs s) (state_by (sourced_by programs s) s)
   pub row :
       row_over (flow_by s) (world_by s) (peak_by (flow_by s) s)
-      ≡ row_over (sourced_by s) (state_by (sourced_by s) s) (peak_by (sourced_by s) s)
+      ≡ row_over (sourced_by programs s) (state_by (sourced_by programs s) s) (peak_by (sourced_by programs s) s)
+
+-- it reads alike over the sources of all programs with its codes
+abbrev pub ReadsAsSources : DrivenState → Type 0
+ReadsAsSources s = (programs : List (ℕ × Built)) → codes_of programs ≡ s.programs → ReadsAlike programs s

@@ -1,5 +1,6 @@
 -- What the code keeps of a driven flow without its history, and the summary that it stands for.
 use Rattle.std.specs.Prelude.{◌≡◌, ℕ, ◌+◌, ◌<◌, ◌≤◌, ◌++◌, Bool, true, nat_lt, Option, Some, None, option_map, [], ◌∷◌, List, length}
+use Rattle.driven_flow.specs.Driven.{Codes}
 use Rattle.ccp_base.specs.FieldReg.{Pair}
 use Rattle.ccp_base.specs.Limits.{most_acks}
 use Rattle.ccp_base.specs.declared.ack.Ack.{Ack}
@@ -10,7 +11,6 @@ use Rattle.slot_pool.specs.Pool.{free_of}
 use Rattle.fold_machine.specs.MachineState.{MachineState, Fits, fresh_machine}
 use Rattle.fold_machine.specs.Heard.{started_by, updated_by}
 use Rattle.fold_machine.specs.Store.{slot_words}
-use Rattle.reg_compiler.specs.declared.built.Built.{Built}
 use Rattle.campaign_core.specs.BareLetters.{due_to}
 use Rattle.flow_core.specs.declared.bare.Issued.{Issued}
 use Rattle.flow_core.specs.Bares.{reports_in}
@@ -58,7 +58,7 @@ pub record InRange (case : DrivenCase) (s : Summary) : Type 0 where
   pub held : s.held ≤ s.acks
 
 -- the machine runs the present program, its further slots are for the waiting reports, and there is room
-pub record IsParts (programs : List (ℕ × Built)) (case : DrivenCase) (s : Parts) : Type 0 where
+pub record IsParts (programs : Codes) (case : DrivenCase) (s : Parts) : Type 0 where
   pub present : is_known programs s.epoch.program ≡ true
   pub fits : Fits s.machine (code_in programs s.epoch.program)
   pub words : s.machine.further.words ≡ slot_words
@@ -68,7 +68,7 @@ pub record IsParts (programs : List (ℕ × Built)) (case : DrivenCase) (s : Par
   pub range : InRange case (summary_by s)
 
 -- the machine that the first change starts
-pub record IsFirstMachine (programs : List (ℕ × Built)) (case : DrivenCase) (program : ℕ) (values : List Pair)
+pub record IsFirstMachine (programs : Codes) (case : DrivenCase) (program : ℕ) (values : List Pair)
     (machine : MachineState) : Type 0 where
   pub started :
       machine
@@ -151,12 +151,12 @@ abbrev pub closed : ℕ → Parts → Parts
 closed reports s = record s { out = None; answered = s.answered + 1; told = s.told + reports }
 
 -- an update writes its values
-pub record Updates (programs : List (ℕ × Built)) (old new : Parts) (values : List Pair) : Type 0 where
+pub record Updates (programs : Codes) (old new : Parts) (values : List Pair) : Type 0 where
   pub frame : new ≡ record old { machine = updated_by values old.machine }
   pub fits : Fits new.machine (code_in programs old.epoch.program)
 
 -- a change starts the program and an epoch, and makes an untold notice void
-pub record Changes (programs : List (ℕ × Built)) (old new : Parts) (program : ℕ) (values : List Pair) : Type 0 where
+pub record Changes (programs : Codes) (old new : Parts) (program : ℕ) (values : List Pair) : Type 0 where
   pub machine : new.machine ≡ started_by (code_in programs program) values old.time old.machine
   pub fits : Fits new.machine (code_in programs program)
   pub frame : new ≡ record old {
@@ -165,7 +165,7 @@ pub record Changes (programs : List (ℕ × Built)) (old new : Parts) (program :
     outbox = record old.outbox { untold = None };
   }
 
-abbrev pub Obeys : List (ℕ × Built) → Parts → Parts → Option ℕ → List Pair → Type 0
+abbrev pub Obeys : Codes → Parts → Parts → Option ℕ → List Pair → Type 0
 Obeys programs old new None values = Updates programs old new values
 Obeys programs old new (Some program) values = Changes programs old new program values
 

@@ -1,5 +1,6 @@
 -- All that a driven flow keeps, and what holds of it between letters.
 use Rattle.std.specs.Prelude.{◌≡◌, ℕ, ◌+◌, Option, option_map, List, [], ◌∷◌, ◌++◌, length}
+use Rattle.driven_flow.specs.Driven.{Codes}
 use Rattle.ccp_base.specs.declared.exchange.Reply.TheVariants.{Nothing}
 use Rattle.link_model.specs.Link.{acks_for_windows}
 use Rattle.link_model.specs.Standing.{LinkState, Stands}
@@ -17,7 +18,6 @@ use Rattle.driven_flow.specs.declared.parts.Parts.{Parts}
 use Rattle.driven_flow.specs.declared.state.State.{State}
 use Rattle.driven_flow.specs.declared.state.Opened.{Opened}
 use Rattle.driven_flow.specs.declared.case.DrivenCase.{DrivenCase}
-use Rattle.reg_compiler.specs.declared.built.Built.{Built}
 use Rattle.ccp_base.specs.FieldReg.{Pair}
 use Rattle.driven_flow.specs.Driven.{Given, DrivenState, over_codes, begun, flow_by, world_by, peak_by}
 use Rattle.driven_flow.specs.DrivenParts.{summary_by, IsParts}
@@ -79,7 +79,7 @@ abbrev pub IsState : State → Type 0
 IsState s = IsDriven (driven_of s) s.parts s.link s.journal s.sums s.peak
 
 -- what a flow has beside its case after its first change
-pub record IsOpened (programs : List (ℕ × Built)) (case : DrivenCase) (program : ℕ) (values : List Pair)
+pub record IsOpened (programs : Codes) (case : DrivenCase) (program : ℕ) (values : List Pair)
     (opened : Opened) : Type 0 where
   pub whole : IsParts programs case opened.parts
   pub stands :

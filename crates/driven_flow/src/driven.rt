@@ -3,7 +3,8 @@ ghost use Rattle.std.specs.Prelude.{◌≡◌, ◌<◌, [], ◌∷◌, ◌++◌,
 ghost use Rattle.ccp_base.specs.FieldReg.{first_bad_pair};
 ghost use Rattle.driven_flow.specs.Driven.{code_in, is_known, is_known_for, bad_in, MayMake, told_out, world_by, flow_by};
 ghost use Rattle.driven_flow.specs.Driven.{present_of, after_next, after_given, left_of, peak_by};
-ghost use Rattle.driven_flow.specs.Driven.{ReadsAlike};
+ghost use Rattle.driven_flow.specs.Driven.{ReadsAsSources};
+ghost use Rattle.driven_flow.specs.Session.{IsShort};
 ghost use Rattle.driven_flow.specs.AgentLaw.{IsOfCase, IsAgentFlow};
 ghost use Rattle.campaign_core.specs.CampaignWord.{next_of};
 ghost use Rattle.campaign_core.specs.CampaignRow.{row_over};
@@ -14,13 +15,12 @@ ghost use Rattle.flow_core.specs.Words.{is_complete};
 
 use crate::answer::Answer;
 use crate::case::DrivenCase;
-use crate::programs::is_known;
+use crate::programs::{Programs, is_known};
 use crate::state::{Opened, State, first_letter};
 use campaign_core::Row;
 use ccp_base::{Ack, Fields, NoMemory, Notice, Told};
 use flow_core::{Case, EpochLine, Letter, TicketLine};
 use fold_machine::Steps;
-use reg_compiler::Built;
 use report_lines::End;
 use std::alloc::Global;
 use std::marker::{Brand, Model};
@@ -54,7 +54,7 @@ impl<'p> DrivenFlow<'p> {
     pub fn begin(
         alloc: Global,
         case: DrivenCase,
-        programs: &'p [(u32, Built)],
+        programs: &'p Programs<'p>,
         program: u32,
         values: &Fields,
     ) -> Result<DrivenFlow<'p>, NoMemory>
@@ -196,7 +196,8 @@ impl<'p> DrivenFlow<'p> {
 
     /// The number of the program that runs.
     pub fn program(&self) -> u32
-        ensures { result ≡ present_of self.now }
+        ensures program { result ≡ present_of self.now }
+        ensures known { is_known self.now.programs result ≡ true }
     {
         self.state.parts.epoch.program
     }
@@ -213,7 +214,8 @@ impl<'p> DrivenFlow<'p> {
 
     /// What the ticket that is out tells, if one is out.
     pub fn told_out(&self) -> Option<Told>
-        ensures { result ≡ told_out (flow_by self.now) (world_by self.now) }
+        ensures told { result ≡ told_out (flow_by self.now) (world_by self.now) }
+        ensures short { IfSome result IsShort }
     {
         self.state.parts.told_out()
     }
@@ -279,7 +281,7 @@ impl<'p> DrivenFlow<'p> {
     /// A law: over the sources of the programs the flow has the same state, where each fault's instruction stands for
     /// its place, and the same greatest window, next letter and row.
     pub fn lift_law(&self)
-        ensures { ReadsAlike self.now }
+        ensures { ReadsAsSources self.now }
     {}
 
     /// A law: if the answers are those that a case's agent gives on the word, from its opening change on, the state is

@@ -17,12 +17,11 @@ ghost use Rattle.driven_flow.specs.DrivenParts.{Obeys, step_given, IsFirstMachin
 use crate::answer::Answer;
 use crate::case::DrivenCase;
 use crate::machine_calls::{pop_told, put_report, run};
-use crate::programs::code_of;
+use crate::programs::{Programs, code_of};
 use campaign_core::{Row, Sums};
 use ccp_base::{Ack, FaultKind, Fields, NoMemory, Told};
 use flow_core::{Issued, Outbox, RunningEpoch};
 use fold_machine::{Acked, Machine, Steps};
-use reg_compiler::Built;
 use report_lines::End;
 use std::alloc::Global;
 use std::sync::ledger::Ledger;
@@ -53,7 +52,7 @@ pub(crate) struct Parts {
 fn first_machine(
     alloc: Global,
     case: &DrivenCase,
-    programs: &[(u32, Built)],
+    programs: &Programs,
     program: u32,
     values: &Fields,
 ) -> Result<Machine, NoMemory>
@@ -74,7 +73,7 @@ impl Parts {
     pub(crate) fn open(
         alloc: Global,
         case: &DrivenCase,
-        programs: &[(u32, Built)],
+        programs: &Programs,
         program: u32,
         values: &Fields,
     ) -> Result<Parts, NoMemory>
@@ -105,7 +104,7 @@ impl Parts {
     pub(crate) fn hear<L: Ledger>(
         &mut self,
         case: &DrivenCase,
-        programs: &[(u32, Built)],
+        programs: &Programs,
         ack: &Ack,
         steps: &mut Steps<L>,
     ) -> Acked
@@ -184,7 +183,7 @@ impl Parts {
     }
 
     /// Takes the oldest report, or else the notice, as a ticket. One must be there, and no ticket may be out.
-    pub(crate) fn take(&mut self, case: &DrivenCase, programs: &[(u32, Built)]) -> Told
+    pub(crate) fn take(&mut self, case: &DrivenCase, programs: &Programs) -> Told
         requires parts { IsParts programs.now case.now self.old }
         requires none_out { self.old.out ≡ None }
         requires some { can_tell (summary_by self.old) ≡ true }
@@ -201,7 +200,7 @@ impl Parts {
 
     // A function of its own: `case` and `programs` say what holds of the parts.
     /// As `take`, without an answer.
-    fn issue(&mut self, case: &DrivenCase, programs: &[(u32, Built)])
+    fn issue(&mut self, case: &DrivenCase, programs: &Programs)
         requires parts { IsParts programs.now case.now self.old }
         requires none_out { self.old.out ≡ None }
         requires some { can_tell (summary_by self.old) ≡ true }
@@ -219,7 +218,7 @@ impl Parts {
     }
 
     /// Applies an answer to the ticket that is out.
-    pub(crate) fn settle(&mut self, case: &DrivenCase, programs: &[(u32, Built)], answer: &Answer)
+    pub(crate) fn settle(&mut self, case: &DrivenCase, programs: &Programs, answer: &Answer)
         requires parts { IsParts programs.now case.now self.old }
         requires out { is_some self.old.out ≡ true }
         requires known { is_known_for programs.now answer.now.program ≡ true }
@@ -250,7 +249,7 @@ impl Parts {
     }
 
     /// Does what an answer says.
-    fn apply(&mut self, programs: &[(u32, Built)], answer: &Answer)
+    fn apply(&mut self, programs: &Programs, answer: &Answer)
         requires fits { Fits self.old.machine (code_in programs.now self.old.epoch.program) }
         requires present { is_known programs.now self.old.epoch.program ≡ true }
         requires known { is_known_for programs.now answer.now.program ≡ true }
@@ -265,7 +264,7 @@ impl Parts {
     }
 
     /// Writes the values of an update.
-    fn update(&mut self, programs: &[(u32, Built)], values: &Fields)
+    fn update(&mut self, programs: &Programs, values: &Fields)
         requires fits { Fits self.old.machine (code_in programs.now self.old.epoch.program) }
         requires present { is_known programs.now self.old.epoch.program ≡ true }
         requires good { first_bad_pair (length (code_in programs.now self.old.epoch.program).controls) values.now
@@ -279,7 +278,7 @@ impl Parts {
     }
 
     /// Starts the program with this number, and with it an epoch, with these values. An untold notice is void then.
-    fn start(&mut self, programs: &[(u32, Built)], program: u32, values: &Fields)
+    fn start(&mut self, programs: &Programs, program: u32, values: &Fields)
         requires known { is_known programs.now program ≡ true }
         requires good { first_bad_pair (length (code_in programs.now program).controls) values.now ≡ None }
         requires epoch { self.old.epoch.number < most_acks }

@@ -11,13 +11,12 @@ use crate::answer::Answer;
 use crate::case::DrivenCase;
 use crate::journal::{Journal, new_notice};
 use crate::parts::Parts;
-use crate::programs::first_bad;
+use crate::programs::{Programs, first_bad};
 use campaign_core::Sums;
 use ccp_base::{Fields, NoMemory, Reply, Told};
 use flow_core::{EpochLine, Letter, TicketLine};
 use fold_machine::Steps;
 use link_model::Link;
-use reg_compiler::Built;
 use std::alloc::Global;
 use std::sync::ledger::Ledger;
 
@@ -25,7 +24,7 @@ use std::sync::ledger::Ledger;
 #[derive(Drop)]
 pub(crate) struct State<'p> {
     pub(crate) case: DrivenCase,
-    pub(crate) programs: &'p [(u32, Built)],
+    pub(crate) programs: &'p Programs<'p>,
     /// The program of the first change.
     pub(crate) program: u32,
     /// The values of the first change.
@@ -52,7 +51,7 @@ impl Opened {
     pub(crate) fn of(
         alloc: Global,
         case: &DrivenCase,
-        programs: &[(u32, Built)],
+        programs: &Programs,
         program: u32,
         values: &Fields,
     ) -> Result<Opened, NoMemory>
@@ -77,7 +76,7 @@ impl<'p> State<'p> {
     /// A flow that has this after its first change.
     pub(crate) fn begin(
         case: DrivenCase,
-        programs: &'p [(u32, Built)],
+        programs: &'p Programs<'p>,
         program: u32,
         values: &Fields,
         opened: Opened,

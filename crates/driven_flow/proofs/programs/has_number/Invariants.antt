@@ -1,0 +1,9 @@
+use Rattle.std.proofs.Common.{◌≡◌, length}
+use Rattle.driven_flow.specs.Driven.{codes_of, is_known}
+use Rattle.driven_flow.proofs.programs.has_number.Given as goal
+
+abbrev pub invariant-loop-first : goal.invariant-loop-first
+invariant-loop-first l = is_known (codes_of l.left) l.number ≡ is_known (codes_of l.builts) l.number
+
+abbrev pub decreases-loop-first : goal.decreases-loop-first
+decreases-loop-first l = length l.left
