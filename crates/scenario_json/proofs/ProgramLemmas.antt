@@ -1,12 +1,16 @@
 -- What is read of a scenario's programs, and the list of its built-in programs, grow at their ends.
-use Rattle.std.proofs.Common.{◌≡◌, ℕ, zero, suc, ◌<◌, List, [], ◌∷◌, ◌++◌, Ok, length, map, drop, get_or, refl, sym, ap, ◌∙◌, ◌+◌, arith, append_assoc}
+use Rattle.std.proofs.Common.{◌≡◌, ℕ, zero, suc, ◌<◌, List, [], ◌∷◌, ◌++◌, Result, Ok, Err, IfOk, length, map, drop, get_or, refl, sym, ap, ◌∙◌, ◌+◌, arith, append_assoc}
 use Rattle.std.proofs.lemmas.List.{length-map, map_push}
+use Rattle.std.proofs.lemmas.List.Elements.{All-push}
 use Rattle.serde_json.specs.Data.{Data, Members, member}
 use Rattle.portus_core.specs.ProgramForm.{form_of}
 use Rattle.portus_build.specs.Builtins.{BuiltIn, builtins, builtin_text}
 use Rattle.portus_build.specs.TextWalk.{program_of}
+use Rattle.portus_build.specs.declared.fault.BuildFault.{BuildFault}
+use Rattle.reg_compiler.specs.CompiledCode.{code_of, places_of}
 use Rattle.reg_compiler.specs.declared.built.Built.{Built}
 use Rattle.ccp_base.specs.Chaining.{then_do}
+use Rattle.scene_core.specs.CompiledPrograms.{IsCompiled, AreCompiled}
 use Rattle.scenario_json.specs.Cases.{AreNumberedFrom}
 use Rattle.reg_compiler.specs.Sources.{sources_of}
 use Rattle.scenario_json.specs.ScenePrograms.{named_program, programs_from, built_in, built_ins_from}
@@ -25,6 +29,16 @@ pub numbered_pushed : (k : ℕ) (programs : List (ℕ × Built)) (one : ℕ × B
     → AreNumberedFrom k (programs ++ one ∷ [])
 numbered_pushed k [] one numbered is = (omega (arith, is), tt)
 numbered_pushed k (first ∷ rest) one numbered is = (numbered.0, numbered_pushed (k + 1) rest one numbered.1 (omega (arith, is)))
+
+-- a program that is built of a text is compiled
+pub built_compiled : (result : Result Built BuildFault) → IfOk result (λ b. b.code.code ≡ code_of (form_of b.program))
+    → IfOk result (λ b. b.places ≡ places_of (form_of b.program)) → IfOk result IsCompiled
+built_compiled (Ok b) code places = record { code = code; places = places }
+built_compiled (Err e) code places = tt
+
+-- one more program that is compiled
+pub compiled_pushed : (programs : List (ℕ × Built)) (one : ℕ × Built) → AreCompiled programs → IsCompiled one.1 → AreCompiled (programs ++ one ∷ [])
+compiled_pushed programs one compiled here = All-push (λ program. IsCompiled program.1) programs one compiled here
 
 -- the programs from a number on: that of the number, and those after it
 next_program : (programs : List BuiltIn) (from number : ℕ) → number < length programs

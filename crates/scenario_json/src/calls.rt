@@ -13,6 +13,7 @@ ghost use Rattle.scene_members.specs.Traces.{table_of};
 ghost use Rattle.scene_members.specs.Whole.{most_cases_of};
 ghost use Rattle.scene_members.specs.declared.mode.SceneMode.TheVariants as modes;
 ghost use Rattle.scene_core.specs.CasePlans.{plan_of, AreFlowsFrom, flow_link_of, link_at_once};
+ghost use Rattle.scene_core.specs.CompiledPrograms.{AreCompiled};
 ghost use Rattle.scenario_json.specs.Cases.{case_names, IsCoded, AreNumberedFrom};
 ghost use Rattle.scenario_json.specs.MemberFaults.{in_scene};
 ghost use Rattle.scenario_json.specs.ParsedScenes.{parts_said};
@@ -49,8 +50,9 @@ pub fn scenario(alloc: Global, text: &[u8], mode: SceneMode) -> Result<Scenario,
         scene_of mode text.now ≡ Ok (scene_with (sources_of s.programs) (map plan_of s.cases))) }
     ensures refused { IfErr result (λ e. e ≢ fault.NoMemory → scene_of mode text.now ≡ Err e) }
 
-    // The programs' numbers are their places, from 0 on.
+    // The programs' numbers are their places, from 0 on, and each program's code is the compiler's.
     ensures numbered { IfOk result (λ s. AreNumberedFrom 0 s.programs) }
+    ensures compiled { IfOk result (λ s. AreCompiled s.programs) }
 
     // Each case has the codes of its programs, and an agent in its initial state; case i is flow i.
     ensures coded { IfOk result (λ s. All (IsCoded s.programs) s.cases) }

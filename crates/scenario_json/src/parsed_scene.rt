@@ -8,6 +8,7 @@ ghost use Rattle.scene_members.specs.Plans.{IsPlan};
 ghost use Rattle.scene_members.specs.Values.{member_of};
 ghost use Rattle.scene_members.specs.Whole.{most_cases_of};
 ghost use Rattle.scene_members.specs.declared.key.Key.TheVariants as key;
+ghost use Rattle.scene_core.specs.CompiledPrograms.{AreCompiled};
 ghost use Rattle.scenario_json.specs.Cases.{AreNumberedFrom};
 ghost use Rattle.scenario_json.specs.ParsedScenes.{parts_said, programs_said};
 ghost use Rattle.scenario_json.specs.Scene.{parts_in};
@@ -35,6 +36,7 @@ pub(crate) struct ParsedScene {
 fn unnamed_programs(alloc: Global) -> Result<SceneProgramList, NoMemory>
     ensures ok { IfOk result (λ p. all_programs None ≡ Ok (programs_said p)) }
     ensures numbered { IfOk result (λ p. AreNumberedFrom 0 p.builts) }
+    ensures compiled { IfOk result (λ p. AreCompiled p.builts) }
     ensures count { IfOk result (λ p. length p.builts ≡ length p.names + built_in_count) }
     ensures few { IfOk result (λ p. length p.names ≤ most_named_programs) }
 {
@@ -49,6 +51,7 @@ fn unnamed_programs(alloc: Global) -> Result<SceneProgramList, NoMemory>
 fn named_programs(alloc: Global, value: &Value) -> Result<SceneProgramList, SceneFault>
     ensures ok { IfOk result (λ p. all_programs (Some (view value.now)) ≡ Ok (programs_said p)) }
     ensures numbered { IfOk result (λ p. AreNumberedFrom 0 p.builts) }
+    ensures compiled { IfOk result (λ p. AreCompiled p.builts) }
     ensures count { IfOk result (λ p. length p.builts ≡ length p.names + built_in_count) }
     ensures few { IfOk result (λ p. length p.names ≤ most_named_programs) }
     ensures err { IfErr result (λ e. e ≢ fault.NoMemory
@@ -62,6 +65,7 @@ fn named_programs(alloc: Global, value: &Value) -> Result<SceneProgramList, Scen
 fn all_programs(alloc: Global, whole: &Value) -> Result<SceneProgramList, SceneFault>
     ensures ok { IfOk result (λ p. all_programs (member_of key.Programs (view whole.now)) ≡ Ok (programs_said p)) }
     ensures numbered { IfOk result (λ p. AreNumberedFrom 0 p.builts) }
+    ensures compiled { IfOk result (λ p. AreCompiled p.builts) }
     ensures count { IfOk result (λ p. length p.builts ≡ length p.names + built_in_count) }
     ensures few { IfOk result (λ p. length p.names ≤ most_named_programs) }
     ensures err { IfErr result (λ e. e ≢ fault.NoMemory
@@ -81,6 +85,7 @@ pub(crate) fn parsed_scene(
 ) -> Result<ParsedScene, SceneFault>
     ensures ok { IfOk result (λ d. parts_in mode (view whole.now) ≡ Ok (parts_said d)) }
     ensures numbered { IfOk result (λ d. AreNumberedFrom 0 d.programs.builts) }
+    ensures compiled { IfOk result (λ d. AreCompiled d.programs.builts) }
     ensures within { IfOk result (λ d. All (IsPlan (length d.programs.builts)) d.plans) }
     ensures count { IfOk result (λ d. length d.plans ≤ most_cases_of mode) }
     ensures err { IfErr result (λ e. e ≢ fault.NoMemory → parts_in mode (view whole.now) ≡ Err e) }

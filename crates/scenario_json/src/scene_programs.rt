@@ -10,6 +10,7 @@ ghost use Rattle.portus_build.specs.Builtins.{builtins, builtin_text};
 ghost use Rattle.portus_build.specs.declared.fault.BuildFault.TheVariants as build_fault;
 ghost use Rattle.scenario_json.specs.Cases.{AreNumberedFrom};
 ghost use Rattle.portus_build.specs.TextWalk.{program_of};
+ghost use Rattle.scene_core.specs.CompiledPrograms.{IsCompiled, AreCompiled};
 ghost use Rattle.scenario_json.specs.ScenePrograms.{named_program, programs_from, programs_in};
 ghost use Rattle.reg_compiler.specs.Sources.{sources_of};
 ghost use Rattle.scenario_json.specs.ScenePrograms.{built_in, built_ins, names_of};
@@ -41,6 +42,7 @@ pub(crate) struct SceneProgramList {
 /// What a text is built into, a program or its first refusal.
 fn build_text(alloc: Global, text: &[u8]) -> Result<Built, BuildFault>
     ensures ok { IfOk result (λ b. program_of text.now ≡ Ok (form_of b.program)) }
+    ensures compiled { IfOk result IsCompiled }
     ensures err { IfErr result (λ e. e ≢ build_fault.NoMemory → program_of text.now ≡ Err e) }
 {
     build(alloc, text)
@@ -50,7 +52,9 @@ fn build_text(alloc: Global, text: &[u8]) -> Result<Built, BuildFault>
 #[tactic(auto, using(portus_build::proofs::BuiltinLemmas::never_refused))]
 fn built_in(alloc: Global, number: u32) -> Result<Built, NoMemory>
     requires { number < length builtins }
-    ensures { IfOk result (λ b. built_in number (program_of (builtin_text number)) ≡ (number, form_of b.program) ∷ []) }
+    ensures form { IfOk result (λ b.
+        built_in number (program_of (builtin_text number)) ≡ (number, form_of b.program) ∷ []) }
+    ensures compiled { IfOk result IsCompiled }
 {
     match build_text(alloc, builtin(number)) {
         Ok(built) => Ok(built),
@@ -64,6 +68,7 @@ fn put_built_ins(alloc: Global, builts: &mut Builts) -> Result<(), NoMemory>
     requires { builts.old ≡ [] }
     ensures forms { OnOk result (sources_of builts.new ≡ built_ins) }
     ensures numbered { OnOk result (AreNumberedFrom 0 builts.new) }
+    ensures compiled { OnOk result (AreCompiled builts.new) }
     ensures count { OnOk result (length builts.new ≡ built_in_count) }
 {
     let mut number = 0;
@@ -78,6 +83,7 @@ fn put_built_ins(alloc: Global, builts: &mut Builts) -> Result<(), NoMemory>
 pub(crate) fn built_ins(alloc: Global) -> Result<Builts, NoMemory>
     ensures forms { IfOk result (λ builts. sources_of builts ≡ built_ins) }
     ensures numbered { IfOk result (AreNumberedFrom 0) }
+    ensures compiled { IfOk result AreCompiled }
     ensures count { IfOk result (λ builts. length builts ≡ built_in_count) }
 {
     let mut builts = Sequence::new(alloc);
@@ -87,6 +93,7 @@ pub(crate) fn built_ins(alloc: Global) -> Result<Builts, NoMemory>
 
 fn named_program(alloc: Global, name: &str, value: &Value) -> Result<NamedProgram, SceneFault>
     ensures ok { IfOk result (λ p. named_program name.now (view value.now) ≡ Ok (form_of p.built.program)) }
+    ensures compiled { IfOk result (λ p. IsCompiled p.built) }
     ensures name { IfOk result (λ p. p.name ≡ name.now) }
     ensures err { IfErr result (λ e. e ≢ fault.NoMemory → named_program name.now (view value.now) ≡ Err e) }
 {
@@ -110,11 +117,13 @@ fn put_programs(
 ) -> Result<(), SceneFault>
     requires few { length names.old + members_len (members_view members.now.entries) ≤ most_named_programs }
     requires numbered { AreNumberedFrom 0 builts.old }
+    requires compiled { AreCompiled builts.old }
     requires count { length builts.old ≡ length names.old + built_in_count }
     ensures ok { OnOk result
         (programs_from (sources_of builts.old) (members_view members.now.entries) ≡ Ok (sources_of builts.new)) }
     ensures names { OnOk result (names.new ≡ names.old ++ names_of (members_view members.now.entries)) }
     ensures numbered { OnOk result (AreNumberedFrom 0 builts.new) }
+    ensures compiled { OnOk result (AreCompiled builts.new) }
     ensures count { OnOk result (length builts.new ≡ length names.new + built_in_count) }
     ensures few { OnOk result (length names.new ≤ most_named_programs) }
     ensures err { IfErr result (λ e. e ≢ fault.NoMemory
@@ -138,6 +147,7 @@ pub(crate) fn programs_in(
     ensures ok { IfOk result (λ p. programs_in (members_view members.now.entries) ≡ Ok (sources_of p.builts)) }
     ensures names { IfOk result (λ p. p.names ≡ names_of (members_view members.now.entries)) }
     ensures numbered { IfOk result (λ p. AreNumberedFrom 0 p.builts) }
+    ensures compiled { IfOk result (λ p. AreCompiled p.builts) }
     ensures count { IfOk result (λ p. length p.builts ≡ length p.names + built_in_count) }
     ensures few { IfOk result (λ p. length p.names ≤ most_named_programs) }
     ensures err { IfErr result (λ e. e ≢ fault.NoMemory → programs_in (members_view members.now.entries) ≡ Err e) }

@@ -1,2 +1,3 @@
 -- The definitions of scene_core.
 pub mod CasePlans
+pub mod CompiledPrograms

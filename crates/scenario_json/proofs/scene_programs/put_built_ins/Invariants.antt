@@ -1,6 +1,7 @@
 use Rattle.std.proofs.Common.{◌≡◌, ◌-◌, ◌≤◌, ◌++◌, drop, length}
 use Rattle.agent_core.specs.Kinds.{built_in_count}
 use Rattle.portus_build.specs.Builtins.{builtins}
+use Rattle.scene_core.specs.CompiledPrograms.{AreCompiled}
 use Rattle.scenario_json.specs.Cases.{AreNumberedFrom}
 use Rattle.reg_compiler.specs.Sources.{sources_of}
 use Rattle.scenario_json.specs.ScenePrograms.{built_ins, built_ins_from}
@@ -12,6 +13,7 @@ invariant-loop-number l =
     × AreNumberedFrom 0 l.builts
     × (length l.builts ≡ l.number)
     × (l.number ≤ built_in_count)
+    × AreCompiled l.builts
 
 abbrev pub decreases-loop-number : goal.decreases-loop-number
 decreases-loop-number l = built_in_count - l.number

@@ -7,8 +7,9 @@ use Rattle.reg_compiler.specs.Sources.{sources_of}
 use Rattle.scenario_json.specs.ScenePrograms.{named_program, programs_from, names_of}
 use Rattle.scene_members.proofs.TableLemmas.{Entry}
 use Rattle.reg_compiler.specs.declared.built.Built.{Built}
+use Rattle.scene_core.specs.CompiledPrograms.{IsCompiled, AreCompiled}
 use Rattle.scenario_json.specs.Cases.{AreNumberedFrom}
-use Rattle.scenario_json.proofs.ProgramLemmas.{forms_pushed, numbered_pushed}
+use Rattle.scenario_json.proofs.ProgramLemmas.{forms_pushed, numbered_pushed, compiled_pushed}
 use Rattle.scenario_json.proofs.scene_programs.put_programs.Goals as goal
 
 pub loop-name-preserved : goal.loop-name-preserved
@@ -26,6 +27,7 @@ loop-name-preserved c =
     let count : length c.push.new.self ≡ length l.names + 1 = ap length names_at ∙ length-append l.names (k ∷ []) in
     let built_count : length c.push-in-loop-name.new.self ≡ length l.builts + 1 = ap length builts ∙ length-append l.builts ((length l.builts, built) ∷ []) in
     let is : named_program k (view e.1) ≡ Ok (form_of built.program) = search rules in
+    let compiled : IsCompiled built = search rules in
     let fewer : members_len (members_view l.name-iterator) ≡ suc (members_len (members_view left)) = ap (λ es. members_len (members_view es)) step in (
       ap (λ bs. programs_from (sources_of bs) (members_view left)) builts
           ∙ sym (forms_pushed l.builts built k (view e.1) (members_view left) is)
@@ -35,4 +37,5 @@ loop-name-preserved c =
       subst (λ (bs : List (ℕ × Built)). AreNumberedFrom 0 bs) (sym builts) (numbered_pushed 0 l.builts (length l.builts, built) l.invariant.2 (omega arith)),
       omega (arith, count, built_count, l.invariant.3),
       omega (arith, count, fewer, l.invariant.4),
+      subst (λ (bs : List (ℕ × Built)). AreCompiled bs) (sym builts) (compiled_pushed l.builts (length l.builts, built) l.invariant.5 compiled),
     )

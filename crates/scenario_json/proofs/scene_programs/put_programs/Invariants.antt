@@ -3,6 +3,7 @@ use Rattle.serde_json.specs.View.{members_view}
 use Rattle.serde_json.specs.Events.{members_len}
 use Rattle.ccp_base.specs.Limits.{most_named_programs}
 use Rattle.agent_core.specs.Kinds.{built_in_count}
+use Rattle.scene_core.specs.CompiledPrograms.{AreCompiled}
 use Rattle.scenario_json.specs.Cases.{AreNumberedFrom}
 use Rattle.reg_compiler.specs.Sources.{sources_of}
 use Rattle.scenario_json.specs.ScenePrograms.{programs_from, names_of}
@@ -15,3 +16,4 @@ invariant-loop-name l =
     × AreNumberedFrom 0 l.builts
     × (length l.builts ≡ length l.names + built_in_count)
     × (length l.names + members_len (members_view l.name-iterator) ≤ most_named_programs)
+    × AreCompiled l.builts
