@@ -14,16 +14,16 @@ use Rattle.live_lines.specs.AnsweredLines.{answered_text}
 use Rattle.live_lines.specs.FaultPlaces.{placed}
 use Rattle.live_lines.specs.FlowLabels.{labelled_line, own}
 use Rattle.driven_flow.specs.declared.case.DrivenCase.{DrivenCase}
-use Rattle.driven_flow.specs.Driven.{DrivenState, Given, ReadsAlike, flow_by, over_codes, over_sources, placed_in, sourced_by, state_by, world_by}
+use Rattle.driven_flow.specs.Driven.{Codes, DrivenState, Given, ReadsAlike, flow_by, over_codes, over_sources, placed_in, sourced_by, state_by, world_by}
 use Rattle.driven_flow.specs.DrivenAccounts.{account_by}
 use Rattle.driven_flow.specs.DrivenText.{driven_account_text, driven_part, given_lines, given_text}
 
-module _ (programs : List (ℕ × Built)) (case : DrivenCase) where
+module _ (codes : Codes) (programs : List (ℕ × Built)) (case : DrivenCase) where
   abbrev texts : Sources
   texts = sources_of programs
 
   abbrev by_codes : Flow ℕ
-  by_codes = over_codes programs case
+  by_codes = over_codes codes case
 
   abbrev by_sources : Flow Place
   by_sources = over_sources texts case
@@ -83,23 +83,23 @@ module _ (programs : List (ℕ × Built)) (case : DrivenCase) where
   abbrev pub account_at : World Place → Track → Account
   account_at w track = record (account_of by_sources w) { end = end_of (length w.acks) track }
 
-module _ (s : DrivenState) (alike : ReadsAlike s) where
+module _ (programs : List (ℕ × Built)) (s : DrivenState) (alike : ReadsAlike programs s) where
   abbrev lifted : World Place
-  lifted = map_world (placed_in s.programs) (world_by s)
+  lifted = map_world (placed_in programs) (world_by s)
 
   abbrev track : Track
   track = track_of (flow_by s) (world_by s)
 
   -- the account over the codes, with its faults as they are over the sources
   abbrev account : Account
-  account = record (account_at s.programs s.case lifted track) { tickets = (account_by s).tickets }
+  account = record (account_at s.programs programs s.case lifted track) { tickets = (account_by programs s).tickets }
 
-  accounts : account_by s ≡ account
-  accounts = λ i. record account { faults = faults-placed s.programs s.case (world_by s).faults i }
+  accounts : account_by programs s ≡ account
+  accounts = λ i. record account { faults = faults-placed s.programs programs s.case (world_by s).faults i }
 
-  pub account-driven : driven_account_text (sources_of s.programs) s.case (account_by s) s.answers
-      ≡ driven_part (sources_of s.programs) s.case (state_by (sourced_by s) s) s.answers
+  pub account-driven : driven_account_text (sources_of programs) s.case (account_by programs s) s.answers
+      ≡ driven_part (sources_of programs) s.case (state_by (sourced_by programs s) s) s.answers
   account-driven =
-      (λ i. driven_account_text (sources_of s.programs) s.case (accounts i) s.answers)
-      ∙ account-shown s.programs s.case account (world_by s).answered s.answers
-      ∙ (λ i. driven_account_text (sources_of s.programs) s.case (account_at s.programs s.case (alike.state i) (alike.track i)) s.answers)
+      (λ i. driven_account_text (sources_of programs) s.case (accounts i) s.answers)
+      ∙ account-shown s.programs programs s.case account (world_by s).answered s.answers
+      ∙ (λ i. driven_account_text (sources_of programs) s.case (account_at s.programs programs s.case (alike.state i) (alike.track i)) s.answers)

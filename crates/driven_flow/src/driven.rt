@@ -180,13 +180,6 @@ impl<'p> DrivenFlow<'p> {
         &self.state.case
     }
 
-    /// The programs, each with its number.
-    pub fn programs(&self) -> &'p [(u32, Built)]
-        ensures { result.now ≡ self.now.programs }
-    {
-        self.state.programs
-    }
-
     /// Whether one of the programs has this number.
     pub fn is_known(&self, number: u32) -> bool
         ensures { result ≡ is_known self.now.programs number }

@@ -1,7 +1,7 @@
 //! A driven flow's part of the live text.
 ghost use Rattle.std.specs.Prelude.{◌≡◌, ◌++◌, OnOk};
 ghost use Rattle.flow_core.specs.LiveText.{account_end_line, sources_of};
-ghost use Rattle.driven_flow.specs.Driven.{sourced_by, state_by};
+ghost use Rattle.driven_flow.specs.Driven.{codes_of, sourced_by, state_by};
 ghost use Rattle.driven_flow.specs.DrivenAccounts.{account_by};
 ghost use Rattle.driven_flow.specs.DrivenText.{driven_account_text, driven_part, further_values, given_lines, reply_text};
 ghost use Rattle.driven_flow.specs.DrivenText.{value_text, values_text};
@@ -18,36 +18,50 @@ use reg_compiler::Built;
 use report_lines::put_labelled;
 
 /// Appends a driven flow's part of the live text: the flow with `own` as its agent, its epochs, its faults with their
-/// places, its tickets, each with its answer as the reply, and how the flow stands.
-pub fn put_flow_part(text: &mut Bytes, flow: &DrivenFlow) -> Result<(), NoMemory>
-    ensures { OnOk result (text.new ≡ text.old ++ driven_part (sources_of flow.now.programs) flow.now.case
-        (state_by (sourced_by flow.now) flow.now) flow.now.answers) }
+/// places, its tickets, each with its answer as the reply, and how the flow stands. These are the flow's programs.
+pub fn put_flow_part(
+    text: &mut Bytes,
+    programs: &[(u32, Built)],
+    flow: &DrivenFlow,
+) -> Result<(), NoMemory>
+    requires { codes_of programs.now ≡ flow.now.programs }
+    ensures { OnOk result (text.new ≡ text.old ++ driven_part (sources_of programs.now) flow.now.case
+        (state_by (sourced_by programs.now flow.now) flow.now) flow.now.answers) }
 {
     flow.lift_law();
-    put_account(text, flow)
+    put_account(text, programs, flow)
 }
 
 // A function of its own: its clause has the flow's state over the codes, and that of `put_flow_part` over the sources.
-fn put_account(text: &mut Bytes, flow: &DrivenFlow) -> Result<(), NoMemory>
-    ensures { OnOk result (text.new ≡ text.old ++ driven_account_text (sources_of flow.now.programs) flow.now.case
-        (account_by flow.now) flow.now.answers) }
+fn put_account(
+    text: &mut Bytes,
+    programs: &[(u32, Built)],
+    flow: &DrivenFlow,
+) -> Result<(), NoMemory>
+    ensures { OnOk result (text.new ≡ text.old ++ driven_account_text (sources_of programs.now) flow.now.case
+        (account_by programs.now flow.now) flow.now.answers) }
 {
     let case = flow.case();
     put_labelled_line(text, case.flow, &case.name, &Own)?;
     put_epoch_lines(text, flow.epochs())?;
-    put_fault_lines(text, flow, flow.faults())?;
-    put_tickets(text, flow.programs(), flow.tickets(), flow.answers())?;
-    put_last(text, flow)
+    put_fault_lines(text, &CodePlaces { programs }, flow.faults())?;
+    put_tickets(text, programs, flow.tickets(), flow.answers())?;
+    put_last(text, programs, flow)
 }
 
-/// The places of a flow's programs.
-impl<'p> Places for DrivenFlow<'p> {
-    ghost use Rattle.driven_flow.specs.Driven.{DrivenState, placed_in};
+/// The places of the instructions of programs.
+#[derive(Drop)]
+struct CodePlaces<'p> {
+    programs: &'p [(u32, Built)],
+}
 
-    ghost placing = { λ (s : DrivenState). placed_in s.programs };
+impl<'p> Places for CodePlaces<'p> {
+    ghost use Rattle.driven_flow.specs.Driven.{placed_in};
+
+    ghost placing = { λ places. placed_in places.programs.now };
 
     fn place(&self, program: u32, index: u16) -> Place {
-        place_at(program_places(self.programs(), program), index)
+        place_at(program_places(self.programs, program), index)
     }
 }
 
@@ -77,16 +91,20 @@ fn put_tickets(
 }
 
 /// Appends the last line of a flow.
-fn put_last(text: &mut Bytes, flow: &DrivenFlow) -> Result<(), NoMemory>
+fn put_last(
+    text: &mut Bytes,
+    programs: &[(u32, Built)],
+    flow: &DrivenFlow,
+) -> Result<(), NoMemory>
     ensures { OnOk result (text.new
-        ≡ text.old ++ account_end_line (sources_of flow.now.programs) (account_by flow.now)) }
+        ≡ text.old ++ account_end_line (sources_of programs.now) (account_by programs.now flow.now)) }
 {
     let counts = Counts {
         reports: report_count(flow.tickets()),
         held: flow.held(),
         faults: flow.faults().len(),
     };
-    let fields = fields_of(flow.programs(), flow.program());
+    let fields = fields_of(programs, flow.program());
     put_last_line(text, fields, counts, &flow.end())
 }
 

@@ -5,7 +5,6 @@ pub mod FeedBegins
 mod FeedEats
 mod FeedEnding
 mod FeedInput
-pub mod FeedMaps
 mod FeedKept
 mod FeedLemmas
 mod FeedSteps

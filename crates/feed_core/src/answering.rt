@@ -102,7 +102,7 @@ pub fn answer_ack<A: Answerer, D: Duplex>(
 }
 
 /// Writes the frame of an answer, if there is one, and hands it on.
-fn write_answer<D: Duplex>(
+pub fn write_answer<D: Duplex>(
     duplex: &mut D,
     answer: &Option<(Message, Version)>,
 ) -> Result<(), Unanswered>

@@ -16,7 +16,8 @@ mod tables;
 mod turn;
 
 pub use answerer::Answerer;
-pub use duplex::{Duplex, hand_over};
+pub use answering::{Unanswered, write_answer};
+pub use duplex::{Duplex, Pair, hand_over};
 pub use ending::FeedEnd;
 pub use feed::Feed;
 pub use flow::{Epoch, Flow};

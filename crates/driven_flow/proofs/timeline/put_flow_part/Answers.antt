@@ -5,4 +5,4 @@ use Rattle.driven_flow.proofs.timeline.put_flow_part.Goals as goal
 pub returns : goal.returns
 returns c =
     subst (λ (part : List ℕ). OnOk c.put_account.result (c.put_account.new.text ≡ c.args.text.now ++ part))
-    (account-driven c.args.flow.now c.lift_law.ensures) c.put_account.ensures
+    (account-driven c.args.programs.now c.args.flow.now (c.lift_law.ensures c.args.programs.now c.requires)) c.put_account.ensures
