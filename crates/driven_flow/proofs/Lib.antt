@@ -8,3 +8,5 @@ pub mod ReplyLemmas
 pub mod AgentLemmas
 pub mod SpanLemmas
 pub mod SessionLemmas
+pub mod SessionLawLemmas
+mod WorkedSession

@@ -5,6 +5,7 @@
 pub mod Driven
 pub mod AgentLaw
 pub mod Session
+pub mod SessionLaws
 -- those that only private contracts, invariants and proofs cite
 pub mod DrivenParts
 pub mod DrivenJournals

@@ -12,6 +12,7 @@ mod programs;
 mod refusal;
 mod running;
 mod session;
+mod session_laws;
 mod state;
 
 pub use answer::Answer;
@@ -20,3 +21,4 @@ pub use driven::DrivenFlow;
 pub use programs::{first_bad, is_known};
 pub use refusal::Refusal;
 pub use session::Session;
+pub use session_laws::{session_law, session_lift_law};
