@@ -27,7 +27,8 @@ use Rattle.feed_core.specs.declared.ending.FeedEnd.{FeedEnd}
 use Rattle.feed_core.specs.declared.ending.FeedEnd.TheVariants as ends
 use Rattle.feed_core.specs.FeedBytes.{Tail, feed_of}
 use Rattle.feed_core.specs.FeedBytes as feeds
-use Rattle.feed_core.specs.FeedEnds.{end_from, feed_end}
+use Rattle.feed_core.specs.Answering.{end_from}
+use Rattle.feed_core.specs.FeedEnds.{feed_end}
 use Rattle.ccp_run.specs.declared.refusal.Limit.TheVariants.{Input, Audit}
 use Rattle.ccp_run.specs.declared.refusal.Refusal.{Refusal}
 use Rattle.ccp_run.specs.declared.refusal.Refusal.TheVariants.{TooLong, NoSeparator, Program, Line, TooManyAcks, Scene as SceneRefused, Frame, FrameCut}
@@ -191,7 +192,7 @@ no_feed bytes (SceneRefused fault) is = absurd is
 no_feed bytes (Frame field place) is = ap refusal_of is
 no_feed bytes (FrameCut place) is = ap refusal_of is
 
-feed_some : (bytes : List ℕ) (tail : Tail) (longer : Bool) → feed_end bytes ≡ end_from tail longer → IsInput (Alone mode.Feed) bytes ⊎ ((refusal : Refusal) × IsNoFeed bytes refusal)
+feed_some : (bytes : List ℕ) (tail : Tail) (longer : Bool) → feed_end bytes ≡ end_from tail false longer → IsInput (Alone mode.Feed) bytes ⊎ ((refusal : Refusal) × IsNoFeed bytes refusal)
 feed_some bytes (feeds.bad field place) longer is = inr (Frame field place, is)
 feed_some bytes (feeds.left place rest) true is = inr (TooLong Input, is)
 feed_some bytes (feeds.left place []) false is = inl is

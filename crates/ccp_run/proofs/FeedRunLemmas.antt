@@ -4,8 +4,10 @@ use Rattle.ccp_base.specs.Limits.{most_input_bytes}
 use Rattle.ccp_base.specs.Outside.{Takes, TakesWithin}
 use Rattle.feed_core.specs.declared.ending.FeedEnd.{FeedEnd}
 use Rattle.feed_core.specs.declared.ending.FeedEnd.TheVariants as ends
+use Rattle.feed_core.specs.Answering.{feeding}
 use Rattle.feed_core.specs.FeedEnds.{answers_written, IsFed, AnswersInput}
 use Rattle.feed_core.specs.FeedEnds.{Stream as Frames, stream as frames}
+use Rattle.feed_core.specs.FeedLacks.{FeedLacksAt}
 use Rattle.ccp_words.specs.declared.mode.Alone.TheVariants.{Feed}
 use Rattle.ccp_run.specs.Modes.{Alone}
 use Rattle.ccp_run.specs.declared.outcome.ModeOutput.{ModeOutput}
@@ -27,7 +29,7 @@ module _ (source sink errors : StreamChange) (is_finished : Type 0) (outcome : O
   abbrev sink_of : Frames
   sink_of = frames sink.old sink.new sink.before sink.now
 
-  answers : (bytes : List ℕ) → AnswersInput source_of sink_of is_finished bytes → WritesAnswers (Alone Feed) source sink is_finished
+  answers : (bytes : List ℕ) → AnswersInput feeding source_of sink_of is_finished bytes → WritesAnswers (Alone Feed) source sink is_finished
   answers bytes all = record { taken = bytes; takes = all.taken; answers = all.written; handed = all.handed }
 
   no_rest : WritesAnswers (Alone Feed) source sink is_finished → WritesSomeAnswers (Alone Feed) source sink is_finished
@@ -50,7 +52,7 @@ module _ (source sink errors : StreamChange) (is_finished : Type 0) (outcome : O
   bad_or_not refusal cause few all r (inr other) =
       ends_wanting (Alone Feed) source sink errors is_finished outcome few tt (no_rest all) (r.failed other)
 
-  pub run_of_feed : (end : FeedEnd) → IsFed source_of sink_of is_finished end → EndsFeed errors outcome end → IsRun (Alone Feed) source sink errors is_finished outcome
+  pub run_of_feed : (end : FeedEnd) → IsFed feeding [] FeedLacksAt source_of sink_of is_finished tt end → EndsFeed errors outcome end → IsRun (Alone Feed) source sink errors is_finished outcome
   run_of_feed ends.Whole fed e =
       let output : ModeOutput = record { text = answers_written fed.0.bytes; books = []; programs = []; ran = 0 } in
       ends_done (Alone Feed) source sink errors is_finished outcome output
@@ -92,6 +94,7 @@ module _ (source sink errors : StreamChange) (is_finished : Type 0) (outcome : O
       (record { taken = fed.bytes; takes = fed.taken; front = fed.front })
       (record { taken = fed.bytes; takes = fed.taken; within = fed.within }) tt e
   run_of_feed ends.NoMemory fed e =
+      let takes : Takes source.old source.new (fed.front ++ fed.rest) = subst (Takes source.old source.new) fed.parts fed.taken in
       ends_wanting (Alone Feed) source sink errors is_finished outcome
-      (record { taken = fed.front ++ fed.rest; takes = fed.taken; within = fed.within }) tt
-      (record { front = fed.front; rest = fed.rest; later = fed.later; takes = fed.taken; answers = fed.written; handed = fed.handed; begins = fed.begins; kept = fed.kept }) e
+      (record { taken = fed.front ++ fed.rest; takes = takes; within = fed.within }) tt
+      (record { front = fed.front; rest = fed.rest; later = fed.later; takes = takes; answers = fed.written; handed = fed.handed; begins = fed.begins; kept = fed.kept }) e

@@ -1,26 +1,23 @@
--- How a feed ends from where it stands.
-use Rattle.std.proofs.Common.{◌≡◌, ◌⊎◌, inl, inr, ℕ, suc, ◌+◌, ◌-◌, ◌<◌, ◌≤◌, Bool, true, false, cond, nat_lt, Option, Some, None, Ok, Err, List, [], ◌∷◌, ◌++◌, length, take, drop, ap, sym, refl, subst, ◌∙◌, arith, append_assoc, length-append, append-nil}
+-- How an input ends from where its frames stand.
+use Rattle.std.proofs.Common.{◌≡◌, ◌⊎◌, inl, inr, ℕ, suc, ◌+◌, ◌-◌, ◌<◌, ◌≤◌, Bool, true, false, nat_lt, Ok, Err, List, [], ◌∷◌, ◌++◌, length, take, drop, ap, sym, refl, subst, ◌∙◌, arith, append_assoc, length-append, append-nil}
 use Rattle.std.proofs.lemmas.Bool.Decides.{nat_tests}
 use Rattle.std.proofs.lemmas.List.{take_all, take-append-le}
-use Rattle.ccp_base.specs.Limits.{most_flows, most_frame_bytes, most_input_bytes}
+use Rattle.ccp_base.specs.Limits.{most_frame_bytes}
 use Rattle.ccp_base.specs.Outside.{Known, Rose, Takes, IsAtEnd, Appends, AppendsPrefix, Takes-append}
 use Rattle.reply_frames.specs.declared.fault.BadKind.{BadKind}
 use Rattle.ccp_messages.specs.declared.fault.DecodeFault.TheVariants.{More, Bad}
 use Rattle.reply_frames.specs.declared.outline.Version.{Version}
 use Rattle.ccp_messages.specs.declared.message.Message.{Message}
-use Rattle.ccp_messages.specs.declared.message.Message.TheVariants.{Create, Measure, Install, Update, Change, Fault, Refused}
-use Rattle.ccp_messages.specs.declared.message.Message.TheVariants as message
-use Rattle.ccp_messages.specs.declared.reason.Reason.TheVariants.{FlowAbove}
 use Rattle.ccp_messages.specs.Messages.{frame_bytes}
 use Rattle.ccp_messages.specs.Decoding.{Begins, BeginsInstall, decoded_of}
 use Rattle.ccp_messages.proofs.DecodeLaws.{begins-decoded}
 use Rattle.feed_core.specs.declared.ending.FeedEnd.{FeedEnd}
 use Rattle.feed_core.specs.declared.ending.FeedEnd.TheVariants as ends
-use Rattle.feed_core.specs.declared.flow.Flow.{Flow}
-use Rattle.feed_core.specs.Feed.{FeedState, there, no_flows, refused, created_at, counted, answer_message, TakesMemory}
-use Rattle.feed_core.specs.FeedBytes.{left, bad, Fed, answer_bytes, with_answers, fed_on, fed, feed_of}
-use Rattle.feed_core.specs.FeedTurns.{BeginsTaking, FailsOne, IsFeeding}
-use Rattle.feed_core.specs.FeedEnds.{answers_written, end_from, feed_end, stream, AreHandedOn, AnswersInput, MayGoOn, MakesFlow, TakesMemoryAt, IsFed}
+use Rattle.feed_core.specs.FeedBytes.{left, bad, Fed, answer_to, with_answers, fed_no_more, fed_on, fed, frames_from}
+use Rattle.feed_core.specs.Answering.{Answering, after, end_from, answering}
+use Rattle.feed_core.specs.FeedTurns.{Start, IsTaking, FailsOne, IsFeeding}
+use Rattle.feed_core.specs.FeedEnds.{stream, AreHandedOn, AnswersInput, MayGoOn, IsFed}
+use Rattle.feed_core.specs.FeedLacks.{BeginsTaking, AnswerLacksAt}
 use Rattle.feed_core.specs.FeedLast.{IsLast}
 use Rattle.feed_core.proofs.FrameEnds.{take-front, fed-part, fed-bad, fed-nothing, bad-on}
 use Rattle.feed_core.proofs.FeedEats.{handed-still, some-used, fed-frame}
@@ -28,268 +25,291 @@ use Rattle.feed_core.proofs.StreamEnds.{appends-all, appends-front, rose-late}
 
 -- ---- ends
 
-not-longer : (n : ℕ) → n ≤ most_input_bytes → nat_lt most_input_bytes n ≡ false
-not-longer n within = grind (arith, nat_tests)
+pub not-longer : (most n : ℕ) → n ≤ most → nat_lt most n ≡ false
+not-longer most n within = grind (arith, nat_tests)
 
-longer : (n : ℕ) → most_input_bytes < n → nat_lt most_input_bytes n ≡ true
-longer n over = grind (arith, nat_tests)
+longer : (most n : ℕ) → most < n → nat_lt most n ≡ true
+longer most n over = grind (arith, nat_tests)
 
-end-none : (place : ℕ) (rest : List ℕ) → length rest ≡ 0 → end_from (left place rest) false ≡ ends.Whole
-end-none place [] none = refl
-end-none place (byte ∷ rest) none = absurd (omega (arith, none))
+end-whole : (place : ℕ) (rest : List ℕ) (waits : Bool) → length rest ≡ 0 → waits ≡ false → end_from (left place rest) waits false ≡ ends.Whole
+end-whole place [] waits none not = ap (λ (w : Bool). end_from (left place []) w false) not
+end-whole place (byte ∷ rest) waits none not = absurd (omega (arith, none))
 
-end-some : (place : ℕ) (rest : List ℕ) → 0 < length rest → end_from (left place rest) false ≡ ends.Cut place
-end-some place [] some = absurd (omega (arith, some))
-end-some place (byte ∷ rest) some = refl
+end-cut : (place : ℕ) (rest : List ℕ) (waits : Bool) → (length rest ≡ 0 → waits ≡ true) → end_from (left place rest) waits false ≡ ends.Cut place
+end-cut place [] waits if_none = ap (λ (w : Bool). end_from (left place []) w false) (if_none refl)
+end-cut place (byte ∷ rest) waits if_none = refl
 
-is-open : (place : ℕ) (rest : List ℕ) → MayGoOn (end_from (left place rest) false)
-is-open place [] = tt
-is-open place (byte ∷ rest) = tt
+is-open : (place : ℕ) (rest : List ℕ) (waits : Bool) → MayGoOn (end_from (left place rest) waits false)
+is-open place [] true = tt
+is-open place [] false = tt
+is-open place (byte ∷ rest) waits = tt
 
--- a Create of a flow that isn't there has no answer
-created-quiet : (state : FeedState) (version : Version) (n cwnd : ℕ) (b : Bool) (o : Option Flow) → b ≡ true → o ≡ None
-    → answer_bytes (counted (cond b (created_at o state version n cwnd) (refused state version n FlowAbove 0))).0 ≡ []
-created-quiet state version n cwnd true None below free = refl
-created-quiet state version n cwnd true (Some flow) below free = let bad : ⊥ = cc in absurd bad
-created-quiet state version n cwnd false o below free = let bad : ⊥ = cc in absurd bad
+module _ {S : Type 0} (start : Start S) (waits : S → Bool) (Takes' : S → Message → Type 0) where
+  -- what may be taken of the input from the start on, and what is made of it
+  abbrev most : ℕ
+  most = start.limit - start.place
 
-module _ (source source' sink sink' : Known) (is_finished : Type 0) (state : FeedState) (eaten : ℕ) (rest : List ℕ) (feeding : IsFeeding source source' sink sink' is_finished state eaten rest)
-    (rb rn wb wn : ℕ) where
-  abbrev bytes : List ℕ
-  bytes = feeding.front ++ rest
+  abbrev frames_of : List ℕ → Fed S
+  frames_of bytes = frames_from start.answer start.limit start.place start.state bytes
 
-  abbrev frames : ℕ
-  frames = most_input_bytes - state.messages
+  abbrev made : Answering S
+  made = answering start.answer waits start.limit start.place start.state
 
-  fits : length bytes ≤ most_input_bytes
-  fits = omega (arith, feeding.within, feeding.eaten_is, length-append feeding.front rest)
+  abbrev Lacks : List ℕ → List ℕ → Type 0
+  Lacks = AnswerLacksAt start.answer Takes' start.place frames_of
 
-  here : feed_of bytes ≡ with_answers feeding.answers (fed frames eaten state rest)
-  unfolding feed_of
-  here = ap (fed most_input_bytes 0 no_flows) (take_all most_input_bytes bytes fits) ∙ feeding.goes rest
+  module _ (source source' sink sink' : Known) (is_finished : Type 0) (state : S) (eaten : ℕ) (rest : List ℕ) (feeding : IsFeeding start source source' sink sink' is_finished state eaten rest) where
+    -- all that was read from the start on
+    abbrev bytes : List ℕ
+    bytes = start.before ++ feeding.bytes
 
-  on : (more : List ℕ) → feed_of (bytes ++ more) ≡ with_answers feeding.answers (fed frames eaten state (rest ++ take (most_input_bytes - length bytes) more))
-  unfolding feed_of
-  on more =
-      let rest' : List ℕ = take (most_input_bytes - length bytes) more in
-      ap (fed most_input_bytes 0 no_flows) (take-front most_input_bytes bytes more fits ∙ append_assoc feeding.front rest rest') ∙ feeding.goes (rest ++ rest')
+    abbrev frames : ℕ
+    frames = most - feeding.frames
 
-  -- ---- if the rest is a part of a frame
+    fits : length bytes ≤ most
+    fits = omega (arith, feeding.within, feeding.eaten_is, ap length feeding.parts, length-append feeding.front rest)
 
-  module _ (needed : ℕ) (cut : decoded_of rest ≡ Err (More needed)) where
-    left-here : feed_of bytes ≡ record { answers = feeding.answers ++ []; tail = left eaten rest }
-    left-here = here ∙ ap (with_answers feeding.answers) (fed-part frames eaten state rest needed cut)
+    fits-after : length feeding.bytes ≤ most - length start.before
+    fits-after = omega (arith, fits, length-append start.before feeding.bytes)
 
-    answers-here : answers_written bytes ≡ feeding.answers
-    answers-here = ap (λ (f : Fed). f.answers) left-here ∙ append-nil feeding.answers
+    here : frames_of (feeding.front ++ rest) ≡ with_answers feeding.answers (fed start.answer frames eaten state rest)
+    unfolding frames_from
+    here = ap (fed start.answer most start.place start.state) (take_all most (feeding.front ++ rest) (omega (arith, fits, ap length feeding.parts))) ∙ feeding.goes rest
 
-    -- the answers are handed on still, with a sink that was touched later
-    pub all-answered : (now_finished : Type 0) → AreHandedOn feeding.answers now_finished → AnswersInput (stream source source' rb rn) (stream sink sink' wb wn) now_finished bytes
-    all-answered now_finished handed = record {
-      taken = feeding.taken;
-      written = subst (Appends sink sink') (sym answers-here) feeding.written;
-      handed = subst (λ (xs : List ℕ). AreHandedOn xs now_finished) (sym answers-here) handed;
-    }
+    on : (more : List ℕ) → frames_of (start.before ++ (feeding.bytes ++ more)) ≡ with_answers feeding.answers (fed start.answer frames eaten state (rest ++ take (most - length bytes) more))
+    unfolding frames_from
+    on more =
+        let rest' : List ℕ = take (most - length bytes) more in
+        ap (fed start.answer most start.place start.state)
+        (ap (take most) (sym (append_assoc start.before feeding.bytes more)) ∙ take-front most bytes more fits ∙ ap (λ (xs : List ℕ). xs ++ rest') feeding.parts ∙ append_assoc feeding.front rest rest')
+        ∙ feeding.goes (rest ++ rest')
 
-    end-here : feed_end bytes ≡ end_from (left eaten rest) false
-    end-here = ap (λ (f : Fed). end_from f.tail (nat_lt most_input_bytes (length bytes))) left-here ∙ ap (end_from (left eaten rest)) (not-longer (length bytes) fits)
+    -- ---- if the rest is a part of a frame
 
-    -- the source was read to its end
-    pub ends-last : IsAtEnd source' → (now_finished : Type 0) (wm : ℕ) → wb ≤ wm → wm ≤ wn → (end : FeedEnd) → IsLast wm wn is_finished now_finished eaten (length rest) end
-        → IsFed (stream source source' rb rn) (stream sink sink' wb wn) now_finished end
-    ends-last at_end now_finished wm first grown ends.Whole last = (
-      record {
-        bytes = bytes;
-        answered = all-answered now_finished (inr last.1);
-        at_end = at_end;
-        within = fits;
-        end_is = end-here ∙ end-none eaten rest last.0;
-      },
-      last.1,
-    )
-    ends-last at_end now_finished wm first grown (ends.Cut place) last = record {
-      bytes = bytes;
-      answered = all-answered now_finished (handed-still feeding.answers is_finished now_finished feeding.handed last.2);
-      at_end = at_end;
-      within = fits;
-      end_is = end-here ∙ end-some eaten rest last.0 ∙ ap ends.Cut (sym last.1);
-    }
-    ends-last at_end now_finished wm first grown ends.WriteFailed last = record {
-      bytes = bytes;
-      taken = feeding.taken;
-      within = fits;
-      rose = rose-late wb wm wn first last.1 grown;
-      front = appends-all sink sink' (answers_written bytes) (subst (Appends sink sink') (sym answers-here) feeding.written);
-    }
-    ends-last at_end now_finished wm first grown (ends.Bad field place) last = absurd last
-    ends-last at_end now_finished wm first grown ends.TooLong last = absurd last
-    ends-last at_end now_finished wm first grown ends.ReadFailed last = absurd last
-    ends-last at_end now_finished wm first grown ends.NoMemory last = absurd last
+    module _ (needed : ℕ) (cut : decoded_of rest ≡ Err (More needed)) where
+      abbrev stands : Fed S
+      stands = record { answers = feeding.answers ++ []; tail = left eaten rest; state = state }
 
-    -- a read failed
-    pub ends-unread : (rm : ℕ) → rb ≤ rm → rm ≤ rn → Rose rm rn → IsFed (stream source source' rb rn) (stream sink sink' wb wn) is_finished ends.ReadFailed
-    ends-unread rm first grown rose = record {
-      bytes = bytes;
-      answered = all-answered is_finished feeding.handed;
-      within = fits;
-      rose = rose-late rb rm rn first rose grown;
-      goes_on = subst MayGoOn (sym end-here) (is-open eaten rest);
-    }
+      left-here : frames_of bytes ≡ stands
+      left-here = ap frames_of feeding.parts ∙ here ∙ ap (with_answers feeding.answers) (fed-part start.answer frames eaten state rest needed cut)
 
-    -- a byte more than the longest input is there
-    pub ends-long : (source'' : Known) (piece : List ℕ) → Takes source' source'' piece → length piece ≡ 1 → eaten + length rest ≡ most_input_bytes
-        → IsFed (stream source source'' rb rn) (stream sink sink' wb wn) is_finished ends.TooLong
-    ends-long source'' piece takes one full =
-        let taken : List ℕ = bytes ++ piece in
-        let long : length bytes ≡ most_input_bytes = omega (arith, full, feeding.eaten_is, length-append feeding.front rest) in
-        let none : most_input_bytes - length bytes ≡ 0 = omega (arith, long) in
-        let again : (more : List ℕ) → feed_of (taken ++ more) ≡ record { answers = feeding.answers ++ []; tail = left eaten rest } = λ more.
-        ap feed_of (append_assoc bytes piece more)
-        ∙ on (piece ++ more)
-        ∙ ap (λ n. with_answers feeding.answers (fed frames eaten state (rest ++ take n (piece ++ more)))) none
-        ∙ ap (λ xs. with_answers feeding.answers (fed frames eaten state xs)) (append-nil rest)
-        ∙ ap (with_answers feeding.answers) (fed-part frames eaten state rest needed cut) in
-        let answers : (more : List ℕ) → answers_written (taken ++ more) ≡ feeding.answers = λ more. ap (λ (f : Fed). f.answers) (again more) ∙ append-nil feeding.answers in
-        let now : answers_written taken ≡ feeding.answers = ap answers_written (sym (append-nil taken)) ∙ answers [] in
+      answers-here : made.written bytes ≡ feeding.answers
+      answers-here = ap (λ (f : Fed S). f.answers) left-here ∙ append-nil feeding.answers
+
+      state-here : made.state bytes ≡ state
+      state-here = ap (λ (f : Fed S). f.state) left-here
+
+      -- the answers are handed on still, with a sink that was touched later
+      pub all-answered : (now_finished : Type 0) (rb rn wb wn : ℕ) → AreHandedOn feeding.answers now_finished → AnswersInput (after start.before made) (stream source source' rb rn) (stream sink sink' wb wn) now_finished feeding.bytes
+      all-answered now_finished rb rn wb wn handed = record {
+        taken = feeding.taken;
+        written = subst (Appends sink sink') (sym answers-here) feeding.written;
+        handed = subst (λ (xs : List ℕ). AreHandedOn xs now_finished) (sym answers-here) handed;
+      }
+
+      end-here : made.end bytes ≡ end_from (left eaten rest) (waits state) false
+      end-here =
+          ap (λ (f : Fed S). end_from f.tail (waits f.state) (nat_lt most (length bytes))) left-here
+          ∙ ap (λ (b : Bool). end_from (left eaten rest) (waits state) b) (not-longer most (length bytes) fits)
+
+      -- the source was read to its end
+      pub ends-last : (now_finished : Type 0) (rb rn wb wm wn : ℕ) → IsAtEnd source' → wb ≤ wm → wm ≤ wn → (end : FeedEnd) → IsLast wm wn is_finished now_finished (waits state) eaten (length rest) end
+          → IsFed made start.before Lacks (stream source source' rb rn) (stream sink sink' wb wn) now_finished state end
+      ends-last now_finished rb rn wb wm wn at_end first grown ends.Whole last = (
         record {
-          bytes = taken;
+          bytes = feeding.bytes;
+          answered = all-answered now_finished rb rn wb wn (inr last.2);
+          at_end = at_end;
+          within = fits-after;
+          end_is = end-here ∙ end-whole eaten rest (waits state) last.0 last.1;
+          state_is = state-here;
+        },
+        last.2,
+      )
+      ends-last now_finished rb rn wb wm wn at_end first grown (ends.Cut place) last = record {
+        bytes = feeding.bytes;
+        answered = all-answered now_finished rb rn wb wn (handed-still feeding.answers is_finished now_finished feeding.handed last.2);
+        at_end = at_end;
+        within = fits-after;
+        end_is = end-here ∙ end-cut eaten rest (waits state) last.0 ∙ ap ends.Cut (sym last.1);
+        state_is = state-here;
+      }
+      ends-last now_finished rb rn wb wm wn at_end first grown ends.WriteFailed last = record {
+        bytes = feeding.bytes;
+        taken = feeding.taken;
+        within = fits-after;
+        rose = rose-late wb wm wn first last.2 grown;
+        front = appends-all sink sink' (made.written bytes) (subst (Appends sink sink') (sym answers-here) feeding.written);
+      }
+      ends-last now_finished rb rn wb wm wn at_end first grown (ends.Bad field place) last = absurd last
+      ends-last now_finished rb rn wb wm wn at_end first grown ends.TooLong last = absurd last
+      ends-last now_finished rb rn wb wm wn at_end first grown ends.ReadFailed last = absurd last
+      ends-last now_finished rb rn wb wm wn at_end first grown ends.NoMemory last = absurd last
+
+      -- a read failed
+      pub ends-unread : (now : S) (rb rm rn wb wn : ℕ) → rb ≤ rm → rm ≤ rn → Rose rm rn → IsFed made start.before Lacks (stream source source' rb rn) (stream sink sink' wb wn) is_finished now ends.ReadFailed
+      ends-unread now rb rm rn wb wn first grown rose = record {
+        bytes = feeding.bytes;
+        answered = all-answered is_finished rb rn wb wn feeding.handed;
+        within = fits-after;
+        rose = rose-late rb rm rn first rose grown;
+        goes_on = subst MayGoOn (sym end-here) (is-open eaten rest (waits state));
+      }
+
+      -- a byte beyond the limit is there
+      pub ends-long : (now : S) (source'' : Known) (piece : List ℕ) (rb rn wb wn : ℕ) → Takes source' source'' piece → length piece ≡ 1 → eaten + length rest ≡ start.limit
+          → IsFed made start.before Lacks (stream source source'' rb rn) (stream sink sink' wb wn) is_finished now ends.TooLong
+      ends-long now source'' piece rb rn wb wn takes one full =
+          let taken : List ℕ = feeding.bytes ++ piece in
+          let all : length bytes ≡ length start.before + length feeding.bytes = length-append start.before feeding.bytes in
+          let long : length bytes ≡ most = omega (arith, full, feeding.eaten_is, ap length feeding.parts, length-append feeding.front rest) in
+          let none : most - length bytes ≡ 0 = omega (arith, long) in
+          let again : (more : List ℕ) → frames_of (start.before ++ (taken ++ more)) ≡ stands = λ more.
+          ap (λ (xs : List ℕ). frames_of (start.before ++ xs)) (append_assoc feeding.bytes piece more)
+          ∙ on (piece ++ more)
+          ∙ ap (λ n. with_answers feeding.answers (fed start.answer frames eaten state (rest ++ take n (piece ++ more)))) none
+          ∙ ap (λ xs. with_answers feeding.answers (fed start.answer frames eaten state xs)) (append-nil rest)
+          ∙ ap (with_answers feeding.answers) (fed-part start.answer frames eaten state rest needed cut) in
+          let answers : (more : List ℕ) → made.written (start.before ++ (taken ++ more)) ≡ feeding.answers = λ more. ap (λ (f : Fed S). f.answers) (again more) ∙ append-nil feeding.answers in
+          let here : made.written (start.before ++ taken) ≡ feeding.answers = ap (λ (xs : List ℕ). made.written (start.before ++ xs)) (sym (append-nil taken)) ∙ answers [] in
+          record {
+            bytes = taken;
+            answered = record {
+              taken = Takes-append source source' source'' feeding.bytes piece feeding.taken takes;
+              written = subst (Appends sink sink') (sym here) feeding.written;
+              handed = subst (λ (xs : List ℕ). AreHandedOn xs is_finished) (sym here) feeding.handed;
+            };
+            within = omega (arith, long, one, all, length-append feeding.bytes piece);
+            end_is = λ more.
+                let over : most < length (start.before ++ (taken ++ more)) =
+                omega (arith, long, one, all, length-append feeding.bytes piece, length-append taken more, length-append start.before (taken ++ more)) in
+                ap (λ (f : Fed S). end_from f.tail (waits f.state) (nat_lt most (length (start.before ++ (taken ++ more))))) (again more)
+                ∙ ap (λ (b : Bool). end_from (left eaten rest) (waits state) b) (longer most (length (start.before ++ (taken ++ more))) over);
+            no_more = λ more. answers more ∙ sym here;
+          }
+
+    -- ---- if no frame begins so
+
+    pub ends-bad : (now : S) (field : BadKind) (offset place rb rn wb wn : ℕ) → decoded_of rest ≡ Err (Bad field offset) → offset < length rest → place ≡ eaten + offset
+        → IsFed made start.before Lacks (stream source source' rb rn) (stream sink sink' wb wn) is_finished now (ends.Bad field place)
+    ends-bad now field offset place rb rn wb wn refused within at =
+        let some : 0 < frames = omega (arith, within, feeding.few, feeding.eaten_is, feeding.within) in
+        let again : (more : List ℕ) → frames_of (start.before ++ (feeding.bytes ++ more)) ≡ record { answers = feeding.answers ++ []; tail = bad field place; state = state } = λ more.
+        on more
+        ∙ ap (with_answers feeding.answers) (fed-bad start.answer frames eaten state (rest ++ take (most - length bytes) more) field offset some (bad-on rest (take (most - length bytes) more) field offset refused))
+        ∙ ap (λ n. with_answers feeding.answers (fed_no_more (bad field n) state)) (sym at) in
+        let answers : (more : List ℕ) → made.written (start.before ++ (feeding.bytes ++ more)) ≡ feeding.answers = λ more. ap (λ (f : Fed S). f.answers) (again more) ∙ append-nil feeding.answers in
+        let here : made.written bytes ≡ feeding.answers = ap (λ (xs : List ℕ). made.written (start.before ++ xs)) (sym (append-nil feeding.bytes)) ∙ answers [] in
+        record {
+          bytes = feeding.bytes;
           answered = record {
-            taken = Takes-append source source' source'' bytes piece feeding.taken takes;
-            written = subst (Appends sink sink') (sym now) feeding.written;
-            handed = subst (λ (xs : List ℕ). AreHandedOn xs is_finished) (sym now) feeding.handed;
+            taken = feeding.taken;
+            written = subst (Appends sink sink') (sym here) feeding.written;
+            handed = subst (λ (xs : List ℕ). AreHandedOn xs is_finished) (sym here) feeding.handed;
           };
-          within = omega (arith, long, one, length-append bytes piece);
-          end_is = λ more.
-              let over : most_input_bytes < length (taken ++ more) = omega (arith, long, one, length-append bytes piece, length-append taken more) in
-              ap (λ (f : Fed). end_from f.tail (nat_lt most_input_bytes (length (taken ++ more)))) (again more)
-              ∙ ap (end_from (left eaten rest)) (longer (length (taken ++ more)) over);
-          no_more = λ more. answers more ∙ sym now;
+          within = fits-after;
+          end_is = λ more. ap (λ (f : Fed S). end_from f.tail (waits f.state) (nat_lt most (length (start.before ++ (feeding.bytes ++ more))))) (again more);
+          no_more = λ more. answers more ∙ sym here;
         }
 
-  -- ---- if no frame begins so
+    -- ---- if a write fails
 
-  pub ends-bad : (field : BadKind) (offset place : ℕ) → decoded_of rest ≡ Err (Bad field offset) → offset < length rest → place ≡ eaten + offset
-      → IsFed (stream source source' rb rn) (stream sink sink' wb wn) is_finished (ends.Bad field place)
-  ends-bad field offset place refused within at =
-      let some : 0 < frames = omega (arith, within, feeding.few, feeding.within) in
-      let again : (more : List ℕ) → feed_of (bytes ++ more) ≡ record { answers = feeding.answers ++ []; tail = bad field place } = λ more.
-      on more
-      ∙ ap (with_answers feeding.answers) (fed-bad frames eaten state (rest ++ take (most_input_bytes - length bytes) more) field offset some (bad-on rest (take (most_input_bytes - length bytes) more) field offset refused))
-      ∙ ap (λ n. with_answers feeding.answers (record { answers = []; tail = bad field n })) (sym at) in
-      let answers : (more : List ℕ) → answers_written (bytes ++ more) ≡ feeding.answers = λ more. ap (λ (f : Fed). f.answers) (again more) ∙ append-nil feeding.answers in
-      let now : answers_written bytes ≡ feeding.answers = ap answers_written (sym (append-nil bytes)) ∙ answers [] in
-      record {
-        bytes = bytes;
-        answered = record {
+    pub ends-unwritten : (now : S) (sink'' : Known) (now_finished : Type 0) (rb rn wb wm wn : ℕ) → wb ≤ wm → wm ≤ wn → FailsOne start.answer wm wn sink' sink'' state rest
+        → IsFed made start.before Lacks (stream source source' rb rn) (stream sink sink'' wb wn) now_finished now ends.WriteFailed
+    ends-unwritten now sink'' now_finished rb rn wb wm wn first grown fails =
+        let some : 0 < fails.used = fails.some in
+        let used : fails.used ≤ length rest = fails.within in
+        let fuel : frames ≡ suc (frames - 1) = omega (arith, some, used, feeding.few, feeding.eaten_is, feeding.within) in
+        let reply : List ℕ = answer_to start.answer state fails.message fails.version in
+        let later : Fed S = fed start.answer (frames - 1) (eaten + fails.used) (start.answer state fails.message fails.version).1 (drop fails.used rest) in
+        let step : frames_of bytes ≡ with_answers feeding.answers (with_answers reply later) =
+        ap frames_of feeding.parts
+        ∙ here
+        ∙ ap (λ n. with_answers feeding.answers (fed start.answer n eaten state rest)) fuel
+        ∙ ap (λ read. with_answers feeding.answers (fed_on start.answer (fed start.answer (frames - 1)) eaten state rest read)) (begins-decoded rest fails.message fails.version fails.used fails.begins) in
+        record {
+          bytes = feeding.bytes;
           taken = feeding.taken;
-          written = subst (Appends sink sink') (sym now) feeding.written;
-          handed = subst (λ (xs : List ℕ). AreHandedOn xs is_finished) (sym now) feeding.handed;
-        };
-        within = fits;
-        end_is = λ more. ap (λ (f : Fed). end_from f.tail (nat_lt most_input_bytes (length (bytes ++ more)))) (again more);
-        no_more = λ more. answers more ∙ sym now;
-      }
+          within = fits-after;
+          rose = rose-late wb wm wn first fails.rose grown;
+          front = subst (AppendsPrefix sink sink'') (sym (ap (λ (f : Fed S). f.answers) step)) (appends-front sink sink' sink'' feeding.answers reply later.answers feeding.written fails.written);
+        }
 
-  -- ---- if a write fails
+    -- ---- out of memory
 
-  pub ends-unwritten : (sink'' : Known) (now_finished : Type 0) (wm : ℕ) → wb ≤ wm → wm ≤ wn → FailsOne wm wn sink' sink'' state rest
-      → IsFed (stream source source' rb rn) (stream sink sink'' wb wn) now_finished ends.WriteFailed
-  ends-unwritten sink'' now_finished wm first grown fails =
-      let some : 0 < fails.used = fails.some in
-      let used : fails.used ≤ length rest = fails.within in
-      let fuel : frames ≡ suc (frames - 1) = omega (arith, some, used, feeding.few, feeding.within) in
-      let later : Fed = fed (frames - 1) (eaten + fails.used) (answer_message state fails.message fails.version).1 (drop fails.used rest) in
-      let step : feed_of bytes ≡ with_answers feeding.answers (with_answers (answer_bytes (answer_message state fails.message fails.version).0) later) =
-      here
-      ∙ ap (λ n. with_answers feeding.answers (fed n eaten state rest)) fuel
-      ∙ ap (λ read. with_answers feeding.answers (fed_on (fed (frames - 1)) eaten state rest read)) (begins-decoded rest fails.message fails.version fails.used fails.begins) in
-      record {
-        bytes = bytes;
-        taken = feeding.taken;
-        within = fits;
-        rose = rose-late wb wm wn first fails.rose grown;
-        front = subst (AppendsPrefix sink sink'') (sym (ap (λ (f : Fed). f.answers) step))
-            (appends-front sink sink' sink'' feeding.answers (answer_bytes (answer_message state fails.message fails.version).0) later.answers feeding.written fails.written);
-      }
+    short : length feeding.front ≤ most
+    short = omega (arith, feeding.within, feeding.eaten_is)
 
-  -- ---- out of memory
+    front-here : frames_of feeding.front ≡ record { answers = feeding.answers; tail = left eaten []; state = state }
+    unfolding frames_from
+    front-here =
+        ap (fed start.answer most start.place start.state) (take_all most feeding.front short ∙ sym (append-nil feeding.front))
+        ∙ feeding.goes []
+        ∙ ap (with_answers feeding.answers) (fed-nothing start.answer frames eaten state)
+        ∙ ap (λ (xs : List ℕ). record { answers = xs; tail = left eaten []; state = state }) (append-nil feeding.answers)
 
-  short : length feeding.front ≤ most_input_bytes
-  short = omega (arith, feeding.within, feeding.eaten_is)
+    front-answers : made.written feeding.front ≡ feeding.answers
+    front-answers = ap (λ (f : Fed S). f.answers) front-here
 
-  front-here : feed_of feeding.front ≡ record { answers = feeding.answers; tail = left eaten [] }
-  unfolding feed_of
-  front-here =
-      ap (fed most_input_bytes 0 no_flows) (take_all most_input_bytes feeding.front short ∙ sym (append-nil feeding.front))
-      ∙ feeding.goes []
-      ∙ ap (with_answers feeding.answers) (fed-nothing frames eaten state)
-      ∙ ap (λ (xs : List ℕ). record { answers = xs; tail = left eaten [] }) (append-nil feeding.answers)
+    front-state : (frames_of feeding.front).state ≡ state
+    front-state = ap (λ (f : Fed S). f.state) front-here
 
-  front-answers : answers_written feeding.front ≡ feeding.answers
-  front-answers = ap (λ (f : Fed). f.answers) front-here
+    -- the answers to a further frame
+    next-answers : (message : Message) (version : Version) (used : ℕ) → Begins rest message version used
+        → (frames_of (feeding.front ++ take used rest)).answers ≡ (frames_of feeding.front).answers ++ answer_to start.answer (frames_of feeding.front).state message version
+    unfolding frames_from
+    next-answers message version used begins =
+        let frame : List ℕ = frame_bytes version message in
+        let used' = some-used rest message version used begins in
+        let some : 0 < used = used'.0 in
+        let fit : used ≤ length rest = used'.1 in
+        let used_is : used ≡ length frame = begins.used_is in
+        let first : take used rest ≡ frame =
+        ap (λ n. take n rest) used_is ∙ ap (take (length frame)) begins.parts ∙ take-append-le (length frame) frame begins.rest (omega arith) ∙ take_all (length frame) frame (omega arith) in
+        let fuel : frames ≡ suc (frames - 1) = omega (arith, some, fit, feeding.few, feeding.eaten_is, feeding.within) in
+        let fits' : length (feeding.front ++ frame) ≤ most = omega (arith, feeding.within, feeding.eaten_is, fit, used_is, length-append feeding.front frame) in
+        let read : decoded_of (frame ++ []) ≡ Ok (message, version, length frame) =
+        begins-decoded (frame ++ []) message version (length frame) (record { rest = []; parts = refl; used_is = refl; meets = begins.meets; typed = begins.typed }) in
+        let reply : List ℕ = answer_to start.answer state message version in
+        let next : S = (start.answer state message version).1 in
+        let later : Fed S = fed start.answer (frames - 1) (eaten + length frame) next [] in
+        let on' : fed start.answer frames eaten state frame ≡ with_answers reply later =
+        ap (λ n. fed start.answer n eaten state frame) fuel ∙ ap (fed start.answer (suc (frames - 1)) eaten state) (sym (append-nil frame)) ∙ fed-frame start.answer (frames - 1) eaten state frame [] message version refl read in
+        let none : later.answers ≡ [] = ap (λ (f : Fed S). f.answers) (fed-nothing start.answer (frames - 1) (eaten + length frame) next) in
+        ap (λ (xs : List ℕ). (frames_of (feeding.front ++ xs)).answers) first
+        ∙ ap (λ (xs : List ℕ). (fed start.answer most start.place start.state xs).answers) (take_all most (feeding.front ++ frame) fits')
+        ∙ ap (λ (f : Fed S). f.answers) (feeding.goes frame)
+        ∙ ap (λ (f : Fed S). feeding.answers ++ f.answers) on'
+        ∙ ap (λ (xs : List ℕ). feeding.answers ++ (reply ++ xs)) none
+        ∙ ap (λ (xs : List ℕ). feeding.answers ++ xs) (append-nil reply)
+        ∙ sym (ap (λ (f : Fed S). f.answers ++ answer_to start.answer f.state message version) front-here)
 
-  -- a further frame that has no answer
-  quiet-frame : (message : Message) (version : Version) (used : ℕ) → Begins rest message version used → answer_bytes (answer_message state message version).0 ≡ []
-      → answers_written (feeding.front ++ take used rest) ≡ feeding.answers
-  unfolding feed_of
-  quiet-frame message version used begins quiet =
-      let frame : List ℕ = frame_bytes version message in
-      let used' = some-used rest message version used begins in
-      let some : 0 < used = used'.0 in
-      let fit : used ≤ length rest = used'.1 in
-      let used_is : used ≡ length frame = begins.used_is in
-      let first : take used rest ≡ frame =
-      ap (λ n. take n rest) used_is ∙ ap (take (length frame)) begins.parts ∙ take-append-le (length frame) frame begins.rest (omega arith) ∙ take_all (length frame) frame (omega arith) in
-      let fuel : frames ≡ suc (frames - 1) = omega (arith, some, fit, feeding.few, feeding.within) in
-      let fits' : length (feeding.front ++ frame) ≤ most_input_bytes = omega (arith, feeding.within, feeding.eaten_is, fit, used_is, length-append feeding.front frame) in
-      let read : decoded_of (frame ++ []) ≡ Ok (message, version, length frame) =
-      begins-decoded (frame ++ []) message version (length frame) (record { rest = []; parts = refl; used_is = refl; meets = begins.meets; typed = begins.typed }) in
-      let next : FeedState = (answer_message state message version).1 in
-      let on' : fed frames eaten state frame ≡ with_answers (answer_bytes (answer_message state message version).0) (fed (frames - 1) (eaten + length frame) next []) =
-      ap (λ n. fed n eaten state frame) fuel ∙ ap (fed (suc (frames - 1)) eaten state) (sym (append-nil frame)) ∙ fed-frame (frames - 1) eaten state frame [] message version refl read in
-      let none : (fed (frames - 1) (eaten + length frame) next []).answers ≡ [] = ap (λ (f : Fed). f.answers) (fed-nothing (frames - 1) (eaten + length frame) next) in
-      ap (λ xs. answers_written (feeding.front ++ xs)) first
-      ∙ ap (λ xs. (fed most_input_bytes 0 no_flows xs).answers) (take_all most_input_bytes (feeding.front ++ frame) fits')
-      ∙ ap (λ (f : Fed). f.answers) (feeding.goes frame)
-      ∙ ap (λ (f : Fed). feeding.answers ++ f.answers) on'
-      ∙ ap (λ xs. feeding.answers ++ (xs ++ (fed (frames - 1) (eaten + length frame) next []).answers)) quiet
-      ∙ ap (λ xs. feeding.answers ++ xs) none
-      ∙ append-nil feeding.answers
+    lacks-for : BeginsInstall rest ⊎ IsTaking Takes' state rest → BeginsInstall rest ⊎ BeginsTaking start.answer Takes' frames_of feeding.front rest
+    lacks-for (inl install) = inl install
+    lacks-for (inr taking) = inr (record {
+      message = taking.message;
+      version = taking.version;
+      used = taking.used;
+      begins = taking.begins;
+      takes = subst (λ (s : S). Takes' s taking.message) (sym front-state) taking.takes;
+      next = next-answers taking.message taking.version taking.used taking.begins;
+    })
 
-  makes-flow : (message : Message) (version : Version) (used : ℕ) → Begins rest message version used → TakesMemory state message → MakesFlow feeding.front rest
-  makes-flow (Create n mss cwnd) version used begins takes = record {
-    flow = n;
-    mss = mss;
-    cwnd = cwnd;
-    version = version;
-    used = used;
-    begins = begins;
-    unanswered = quiet-frame (Create n mss cwnd) version used begins (created-quiet state version n cwnd (nat_lt n most_flows) (there state.flows n) (grind (arith, nat_tests, takes.0)) takes.1) ∙ sym front-answers;
-  }
-  makes-flow (Measure report) version used begins takes = absurd takes
-  makes-flow (Install n program code) version used begins takes = absurd takes
-  makes-flow (Update n values) version used begins takes = absurd takes
-  makes-flow (Change n program values) version used begins takes = absurd takes
-  makes-flow (Fault notice) version used begins takes = absurd takes
-  makes-flow (message.Ack n ack) version used begins takes = absurd takes
-  makes-flow (Refused n reason index) version used begins takes = absurd takes
-
-  takes-memory : BeginsInstall rest ⊎ BeginsTaking state rest → TakesMemoryAt feeding.front rest
-  takes-memory (inl install) = inr (inl install)
-  takes-memory (inr taking) = inr (inr (makes-flow taking.message taking.version taking.used taking.begins taking.takes))
-
-  pub ends-wanting : length rest ≤ most_frame_bytes → BeginsInstall rest ⊎ BeginsTaking state rest → IsFed (stream source source' rb rn) (stream sink sink' wb wn) is_finished ends.NoMemory
-  ends-wanting few cause = record {
-    front = feeding.front;
-    rest = rest;
-    later = (fed frames eaten state rest).answers;
-    taken = feeding.taken;
-    within = fits;
-    written = subst (Appends sink sink') (sym front-answers) feeding.written;
-    handed = subst (λ (xs : List ℕ). AreHandedOn xs is_finished) (sym front-answers) feeding.handed;
-    begins = ap (λ (f : Fed). f.answers) here ∙ ap (λ xs. xs ++ (fed frames eaten state rest).answers) (sym front-answers);
-    whole = ap (λ (f : Fed). end_from f.tail (nat_lt most_input_bytes (length feeding.front))) front-here
-        ∙ ap (end_from (left eaten [])) (not-longer (length feeding.front) short);
-    kept = few;
-    cause = takes-memory cause;
-  }
+    pub ends-wanting : (now : S) (rb rn wb wn : ℕ) → length rest ≤ most_frame_bytes → BeginsInstall rest ⊎ IsTaking Takes' state rest → IsFed made start.before Lacks (stream source source' rb rn) (stream sink sink' wb wn) is_finished now ends.NoMemory
+    ends-wanting now rb rn wb wn few cause = record {
+      bytes = feeding.bytes;
+      front = feeding.front;
+      rest = rest;
+      later = (fed start.answer frames eaten state rest).answers;
+      taken = feeding.taken;
+      parts = feeding.parts;
+      within = omega (arith, fits, ap length feeding.parts);
+      written = subst (Appends sink sink') (sym front-answers) feeding.written;
+      handed = subst (λ (xs : List ℕ). AreHandedOn xs is_finished) (sym front-answers) feeding.handed;
+      begins = ap (λ (f : Fed S). f.answers) here ∙ ap (λ xs. xs ++ (fed start.answer frames eaten state rest).answers) (sym front-answers);
+      kept = few;
+      cause = record {
+        whole = ap (λ (f : Fed S). f.tail) front-here ∙ ap (λ n. left n []) (sym feeding.eaten_is);
+        cause = lacks-for cause;
+      };
+    }

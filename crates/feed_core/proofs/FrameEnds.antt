@@ -9,8 +9,7 @@ use Rattle.ccp_messages.specs.declared.fault.DecodeFault.{DecodeFault}
 use Rattle.ccp_messages.specs.declared.fault.DecodeFault.TheVariants.{More, Bad, NoMemory}
 use Rattle.ccp_messages.specs.Decoding.{Found, found_from, decoded_from, decoded_of}
 use Rattle.ccp_messages.proofs.DecodeLaws.{decoded-begins, decoded-bad}
-use Rattle.feed_core.specs.Feed.{FeedState}
-use Rattle.feed_core.specs.FeedBytes.{left, bad, fed_on, fed}
+use Rattle.feed_core.specs.FeedBytes.{AnswerRule, left, bad, fed_no_more, fed_on, fed}
 use Rattle.feed_core.proofs.FeedEats.{some-used}
 
 pub take-front : (n : ℕ) (xs ys : List ℕ) → length xs ≤ n → take n (xs ++ ys) ≡ xs ++ take (n - length xs) ys
@@ -19,33 +18,33 @@ take-front n xs ys within =
     ap (λ k. take k (xs ++ ys)) parts ∙ take-append-add xs ys (n - length xs)
 
 -- a part of a frame has no answers
-pub fed-part : (frames place : ℕ) (state : FeedState) (bytes : List ℕ) (needed : ℕ) → decoded_of bytes ≡ Err (More needed)
-    → fed frames place state bytes ≡ record { answers = []; tail = left place bytes }
-fed-part zero place state bytes needed e = refl
-fed-part (suc frames) place state bytes needed e = ap (fed_on (fed frames) place state bytes) e
+pub fed-part : {S : Type 0} (answer : AnswerRule S) (frames place : ℕ) (state : S) (bytes : List ℕ) (needed : ℕ) → decoded_of bytes ≡ Err (More needed)
+    → fed answer frames place state bytes ≡ fed_no_more (left place bytes) state
+fed-part answer zero place state bytes needed e = refl
+fed-part answer (suc frames) place state bytes needed e = ap (fed_on answer (fed answer frames) place state bytes) e
 
 -- nor have bytes that no frame begins with
-pub fed-bad : (frames place : ℕ) (state : FeedState) (bytes : List ℕ) (field : BadKind) (offset : ℕ) → 0 < frames → decoded_of bytes ≡ Err (Bad field offset)
-    → fed frames place state bytes ≡ record { answers = []; tail = bad field (place + offset) }
-fed-bad zero place state bytes field offset some e = absurd (omega (arith, some))
-fed-bad (suc frames) place state bytes field offset some e = ap (fed_on (fed frames) place state bytes) e
+pub fed-bad : {S : Type 0} (answer : AnswerRule S) (frames place : ℕ) (state : S) (bytes : List ℕ) (field : BadKind) (offset : ℕ) → 0 < frames → decoded_of bytes ≡ Err (Bad field offset)
+    → fed answer frames place state bytes ≡ fed_no_more (bad field (place + offset)) state
+fed-bad answer zero place state bytes field offset some e = absurd (omega (arith, some))
+fed-bad answer (suc frames) place state bytes field offset some e = ap (fed_on answer (fed answer frames) place state bytes) e
 
 -- no bytes have no answers, and nothing is left of them
-nothing-read : (frames place : ℕ) (state : FeedState) (read : Result Found DecodeFault) → decoded_of [] ≡ read
-    → fed_on (fed frames) place state [] read ≡ record { answers = []; tail = left place [] }
-nothing-read frames place state (Ok (message, version, used)) e =
+nothing-read : {S : Type 0} (answer : AnswerRule S) (frames place : ℕ) (state : S) (read : Result Found DecodeFault) → decoded_of [] ≡ read
+    → fed_on answer (fed answer frames) place state [] read ≡ fed_no_more (left place []) state
+nothing-read answer frames place state (Ok (message, version, used)) e =
     let begins = decoded-begins [] (message, version, used) (λ i. omega arith) e in
     let used' = some-used [] message version used begins in
     absurd (omega (arith, used'.0, used'.1))
-nothing-read frames place state (Err (More needed)) e = refl
-nothing-read frames place state (Err (Bad field offset)) e =
+nothing-read answer frames place state (Err (More needed)) e = refl
+nothing-read answer frames place state (Err (Bad field offset)) e =
     let within : offset < 0 = (decoded-bad [] field offset e).0.within in
     absurd (omega (arith, within))
-nothing-read frames place state (Err NoMemory) e = refl
+nothing-read answer frames place state (Err NoMemory) e = refl
 
-pub fed-nothing : (frames place : ℕ) (state : FeedState) → fed frames place state [] ≡ record { answers = []; tail = left place [] }
-fed-nothing zero place state = refl
-fed-nothing (suc frames) place state = nothing-read frames place state (decoded_of []) refl
+pub fed-nothing : {S : Type 0} (answer : AnswerRule S) (frames place : ℕ) (state : S) → fed answer frames place state [] ≡ fed_no_more (left place []) state
+fed-nothing answer zero place state = refl
+fed-nothing answer (suc frames) place state = nothing-read answer frames place state (decoded_of []) refl
 
 -- bytes that no frame begins with stay so, whatever follows
 pub bad-on : (bytes more : List ℕ) (field : BadKind) (place : ℕ) → decoded_of bytes ≡ Err (Bad field place) → decoded_of (bytes ++ more) ≡ Err (Bad field place)

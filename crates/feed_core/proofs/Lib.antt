@@ -1,8 +1,10 @@
 -- The lemmas of feed_core, a file a topic.
 mod AckFrames
+mod AnswerParts
 pub mod FeedBegins
 mod FeedEats
 mod FeedEnding
+mod FeedInput
 mod FeedKept
 mod FeedLemmas
 mod FeedSteps

@@ -5,12 +5,6 @@ use Rattle.std.proofs.lemmas.List.{drop-take, drop-drop, length-take, length-tak
 use borrow.Rule.Slice.PartMut.{put_mid, post_of}
 use Rattle.feed_core.specs.Rests.{between}
 
--- they are no more than the end's place
-pub between-few : (bytes : List ℕ) (start end most : ℕ) → end ≤ most → length (between bytes start end) ≤ most
-between-few bytes start end most within =
-    let less : length (take (end - start) (drop start bytes)) ≤ end - start = omega (arith, length-take (end - start) (drop start bytes)) in
-    omega (arith, less, within)
-
 -- fewer at the front
 pub between-drop : (bytes : List ℕ) (start end count : ℕ) → count ≤ length (between bytes start end)
     → between bytes (start + count) end ≡ drop count (between bytes start end)

@@ -1,5 +1,5 @@
 -- The outcomes of the next frame of an input, and the invariant over its frames.
-use Rattle.std.specs.Prelude.{◌≡◌, ◌⊎◌, ℕ, ◌+◌, ◌-◌, ◌<◌, ◌≤◌, Bool, Err, List, ◌++◌, length}
+use Rattle.std.specs.Prelude.{◌≡◌, ◌⊎◌, ℕ, ◌+◌, ◌-◌, ◌<◌, ◌≤◌, Err, List, ◌++◌, length}
 use Rattle.ccp_base.specs.Outside.{Known, Rose, Takes, Appends, AppendsPrefix}
 use Rattle.ccp_base.specs.Limits.{most_frame_bytes}
 use Rattle.reply_frames.specs.declared.outline.Version.{Version}

@@ -44,12 +44,12 @@ pub fn answer_frames<D: Duplex>(alloc: Global, duplex: &mut D) -> FeedEnd
     answer_from(alloc, &mut feed, &mut rest, 0, LIMIT, duplex)
 }
 
-/// Answers the frames that follow the first `eaten` bytes of an input of at most `limit` bytes, as `answer_frames` does;
-/// the first bytes of these frames, which were read before, are in `rest`. It reads only where `allowed` lets it: once
-/// the answers to all frames of `rest` and of what it took are handed on. The places in its result are those in the
-/// input. If the input ends where the answerer needs another message, it is cut there. Memory can run out only for the
-/// code of an Install, or where the answerer takes it. Afterwards the answerer has answered all whole frames, unless a
-/// write failed, and `rest` has no meaning.
+/// Answers the frames that follow the first `eaten` bytes of an input of at most `limit` bytes, as `answer_frames` does.
+/// `rest` has the bytes after the first `eaten` that were read before, and isn't used afterwards. It reads only where
+/// `allowed` lets it: once the answers to all frames of `rest` and of what it took are handed on. The places in its
+/// result are those in the input, which is cut at its end if the answerer needs another message there. Memory can run
+/// out only for the code of an Install, or where the answerer takes it (`Takes`). If the input was read to its end, the
+/// answerer has answered all its frames.
 pub fn answer_from<A: Answerer, D: Duplex>(
     alloc: Global,
     answerer: &mut A,
@@ -75,23 +75,23 @@ pub fn answer_from<A: Answerer, D: Duplex>(
         (D.write_faults duplex.old) (D.write_faults duplex.new))
         (D.is_finished duplex.new) answerer.new result }
 {
-    let mut eaten = eaten;
+    let mut place = eaten;
     loop {
         match next_frame(alloc, answerer, rest.as_slice(), duplex) {
             Turn::Answered(used) => {
                 rest.drop_front(used);
-                eaten += used;
+                place += used;
             }
             Turn::Part => {
                 let left = rest.len();
-                match rest.read(duplex, limit - eaten - left) {
+                match rest.read(duplex, limit - place - left) {
                     Piece::Bytes(_) => {}
-                    Piece::End => return at_end(duplex, answerer.waits(), eaten, left),
+                    Piece::End => return at_end(duplex, answerer.waits(), place, left),
                     Piece::Further => return FeedEnd::TooLong,
                     Piece::Failed => return FeedEnd::ReadFailed,
                 }
             }
-            Turn::Bad(field, offset) => return FeedEnd::Bad(field, (eaten + offset) as u64),
+            Turn::Bad(field, offset) => return FeedEnd::Bad(field, (place + offset) as u64),
             Turn::WriteFailed => return FeedEnd::WriteFailed,
             Turn::NoMemory => return FeedEnd::NoMemory,
         }

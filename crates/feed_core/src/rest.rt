@@ -43,7 +43,7 @@ impl Rest {
         }
     }
 
-    /// How many bytes they are.
+    /// How many bytes there are.
     pub fn len(&self) -> usize
         ensures { result ≡ length self.now }
     {
@@ -66,7 +66,8 @@ impl Rest {
         self.start += count;
     }
 
-    /// Reads a piece of at most `room` bytes and appends it. If `room` is 0 it asks for one byte, and keeps none.
+    /// Reads a piece of at most `room` bytes and appends it. If `room` is 0 it asks for one byte, and keeps none. Before
+    /// it, fewer than 8,596 bytes are there.
     pub fn read<D: Duplex>(&mut self, duplex: &mut D, room: usize) -> Piece
         requires few { length self.old < most_frame_bytes }
         requires allowed { D.MayRead duplex.old }

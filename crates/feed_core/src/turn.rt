@@ -36,7 +36,12 @@ fn without_frame(fault: DecodeFault) -> Turn
 }
 
 /// Answers the frame that the bytes begin with.
-pub fn next_frame<A: Answerer, D: Duplex>(alloc: Global, answerer: &mut A, bytes: &[u8], duplex: &mut D) -> Turn
+pub fn next_frame<A: Answerer, D: Duplex>(
+    alloc: Global,
+    answerer: &mut A,
+    bytes: &[u8],
+    duplex: &mut D,
+) -> Turn
     requires room { length bytes.now ≤ A.room answerer.old }
     ensures follows { D.Follows duplex.old duplex.new }
     ensures remaining { D.remaining duplex.new ≡ D.remaining duplex.old }
@@ -58,7 +63,12 @@ pub fn next_frame<A: Answerer, D: Duplex>(alloc: Global, answerer: &mut A, bytes
 
 /// Answers the frame of any kind that the bytes begin with.
 #[inline(never)]
-fn other_frame<A: Answerer, D: Duplex>(alloc: Global, answerer: &mut A, bytes: &[u8], duplex: &mut D) -> Turn
+fn other_frame<A: Answerer, D: Duplex>(
+    alloc: Global,
+    answerer: &mut A,
+    bytes: &[u8],
+    duplex: &mut D,
+) -> Turn
     requires room { length bytes.now ≤ A.room answerer.old }
     ensures follows { D.Follows duplex.old duplex.new }
     ensures remaining { D.remaining duplex.new ≡ D.remaining duplex.old }

@@ -1,10 +1,10 @@
-use Rattle.std.proofs.Common.{◌≡◌, List, ℕ, Result, Ok, Err, OnOk, IfErr, ap, subst}
+use Rattle.std.proofs.Common.{◌≡◌, List, ℕ, Result, Ok, Err, OnOk, IfErr, subst}
 use Rattle.ccp_base.specs.Outside.{Appends}
 use Rattle.ccp_messages.specs.declared.message.Message.TheVariants as message
-use Rattle.feed_core.specs.Feed.{MessageAnswer, answer_message}
-use Rattle.feed_core.specs.FeedBytes.{answer_bytes}
+use Rattle.feed_core.specs.FeedBytes.{answer_bytes, answer_to}
 use Rattle.feed_core.specs.FeedEnds.{AreHandedOn}
 use Rattle.feed_core.specs.FeedStops.{StopsAnswer}
+use Rattle.feed_core.proofs.AnswerParts.{answer-part, state-part}
 use Rattle.feed_core.proofs.answering.answer_ack.Goals as goal
 
 -- what holds at all holds after a success
@@ -15,11 +15,11 @@ always (Err why) holds = tt
 pub returns : goal.returns
 returns g c =
     let frame = c.args.frame.now in
-    let same : answer_bytes c.acknowledge.new.answer ≡ answer_bytes (answer_message c.args.feed.now (message.Ack frame.flow frame.ack) frame.version).0 =
-    ap (λ (a : MessageAnswer). answer_bytes a.0) c.acknowledge.ensures.answered in
+    let same : answer_bytes c.acknowledge.new.answer ≡ answer_to g.A.Answerer.answer_of c.args.answerer.now (message.Ack frame.flow frame.ack) frame.version =
+    answer-part c.acknowledge.ensures.answered in
     record {
-      state = always c.write_answer-done.result (ap (λ (a : MessageAnswer). a.1) c.acknowledge.ensures.answered);
-      one = always c.write_answer-done.result c.acknowledge.ensures.counted;
+      state = always c.write_answer-done.result (state-part c.acknowledge.ensures.answered);
+      one = always c.write_answer-done.result c.acknowledge.ensures.room;
       written = subst (λ (bytes : List ℕ). OnOk c.write_answer-done.result (Appends (g.D.Duplex.written c.args.duplex.now) (g.D.Duplex.written c.write_answer-done.new.duplex) bytes)) same c.write_answer-done.ensures.written;
       handed = subst (λ (bytes : List ℕ). OnOk c.write_answer-done.result (AreHandedOn bytes (g.D.Duplex.is_finished c.write_answer-done.new.duplex))) same c.write_answer-done.ensures.handed;
       kept = c.write_answer-done.ensures.kept;

@@ -25,7 +25,7 @@ pub returns-in-Err-clause-turn : goal.returns-in-Err-clause-turn
 returns-in-Err-clause-turn g c =
     let frame = c.in-Some.frame in
     let used = some-used c.args.bytes.now (message.Ack frame.flow frame.ack) frame.version frame.used c.in-Some.ensures in
-    let stops = subst (StopsAnswer (g.D.Duplex.write_faults c.args.duplex.now) (g.D.Duplex.write_faults c.answer_ack.new.duplex) (g.D.Duplex.written c.args.duplex.now) (g.D.Duplex.written c.answer_ack.new.duplex) (answer_to c.args.feed.now (message.Ack frame.flow frame.ack) frame.version))
+    let stops = subst (StopsAnswer (g.D.Duplex.write_faults c.args.duplex.now) (g.D.Duplex.write_faults c.answer_ack.new.duplex) (g.D.Duplex.written c.args.duplex.now) (g.D.Duplex.written c.answer_ack.new.duplex) (answer_to g.A.Answerer.answer_of c.args.answerer.now (message.Ack frame.flow frame.ack) frame.version))
     c.in-Err.ensures.failed c.in-Err.ensures.err in
     record {
       message = message.Ack frame.flow frame.ack;

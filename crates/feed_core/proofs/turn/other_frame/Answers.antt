@@ -21,9 +21,9 @@ returns-in-Ok-answer-clause-turn g c =
 
 pub returns-in-Err-clause-turn : goal.returns-in-Err-clause-turn
 returns-in-Err-clause-turn g c =
-    subst (IsTurn (g.D.Duplex.write_faults c.args.duplex.now) (g.D.Duplex.write_faults c.args.duplex.now) (g.D.Duplex.is_finished c.args.duplex.now) (g.D.Duplex.written c.args.duplex.now) (g.D.Duplex.written c.args.duplex.now) c.args.feed.now c.args.feed.now c.args.bytes.now)
+    subst (IsTurn g.A.Answerer.answer_of g.A.Answerer.room g.A.Answerer.Takes (g.D.Duplex.write_faults c.args.duplex.now) (g.D.Duplex.write_faults c.args.duplex.now) (g.D.Duplex.is_finished c.args.duplex.now) (g.D.Duplex.written c.args.duplex.now) (g.D.Duplex.written c.args.duplex.now) c.args.answerer.now c.args.answerer.now c.args.bytes.now)
     (sym c.without_frame.ensures)
-    (turns-without (g.D.Duplex.write_faults c.args.duplex.now) (g.D.Duplex.is_finished c.args.duplex.now) (g.D.Duplex.written c.args.duplex.now) c.args.feed.now c.args.bytes.now (λ i. omega (arith, c.type_inv.bytes i))
+    (turns-without g.A.Answerer.answer_of g.A.Answerer.room g.A.Answerer.Takes (g.D.Duplex.write_faults c.args.duplex.now) (g.D.Duplex.is_finished c.args.duplex.now) (g.D.Duplex.written c.args.duplex.now) c.args.answerer.now c.args.bytes.now (λ i. omega (arith, c.type_inv.bytes i))
     c.decode.result c.decode.ensures.told c.decode.ensures.more c.decode.ensures.bad c.decode.ensures.memory c.in-Err.fault c.in-Err.is)
 
 pub returns-in-Err-NoMemory-clause-turn : goal.returns-in-Err-NoMemory-clause-turn

@@ -1,11 +1,11 @@
-use Rattle.std.proofs.Common.{ℕ, ◌+◌, ◌-◌, ◌≤◌, ◌++◌, length, take, ap, ◌∙◌, arith}
+use Rattle.std.proofs.Common.{ℕ, ◌+◌, ◌-◌, ◌≤◌, ◌++◌, length, take, ap, refl, ◌∙◌, arith}
 use Rattle.std.proofs.lemmas.List.{length-take-le}
 use Rattle.feed_core.proofs.RestLemmas.{between-piece}
 use Rattle.feed_core.proofs.rest.Rest.read.Goals as goal
 
 pub returns-in-Ok-2-clause-came : goal.returns-in-Ok-2-clause-came
 returns-in-Ok-2-clause-came g c =
-    let at : ℕ = c.settle.new.self.end in
+    let at : ℕ = c.self.inside.end - c.self.inside.start in
     let asked : ℕ = c.min-asked.result in
     let out = c.read.new.out in
     let count = c.in-Ok.field-0 in
@@ -18,6 +18,6 @@ returns-in-Ok-2-clause-came g c =
       long = length-take-le count out fits;
       some = omega (arith, c.in-Ok.field-0-test);
       within = omega (arith, few, least);
-      added = between-piece c.settle.new.self.bytes out c.settle.new.self.start at (at + asked - at) count c.settle.ensures.start (omega arith) fits
-          ∙ ap (λ xs. xs ++ take count out) c.settle.ensures.same;
+      added = between-piece c.settle.new.bytes out 0 at (at + asked - at) count refl (omega arith) fits
+          ∙ ap (λ xs. xs ++ take count out) (c.settle.ensures ∙ c.self.view_is);
     }
