@@ -13,3 +13,5 @@ pub mod FrontLaws
 mod WorkedDriven
 pub mod SpanLemmas
 pub mod SessionLemmas
+pub mod SessionLawLemmas
+mod WorkedSession

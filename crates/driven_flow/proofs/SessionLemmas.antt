@@ -3,12 +3,11 @@ use Rattle.std.specs.Prelude.{◌≡◌, ◌≢◌, ℕ, zero, suc, ◌+◌, ◌
 use Rattle.std.proofs.Common.{arith, ap, sym, ◌∙◌, subst}
 use Rattle.std.proofs.lemmas.Bool.Decides.{nat_tests}
 use Rattle.ccp_base.specs.Limits.{most_fields, most_short_fields}
-use Rattle.ccp_base.specs.declared.exchange.Notice.{Notice}
 use Rattle.ccp_base.specs.declared.exchange.Report.{Report}
 use Rattle.ccp_base.specs.declared.exchange.Told.TheVariants as told
 use Rattle.reply_frames.specs.declared.outline.Version.{Version}
 use Rattle.reply_frames.specs.declared.outline.Version.TheVariants.{One, Two}
-use Rattle.ccp_messages.specs.declared.message.Message.TheVariants.{Measure, Fault}
+use Rattle.ccp_messages.specs.declared.message.Message.TheVariants.{Measure}
 use Rattle.ccp_messages.specs.Messages.{frame_bytes}
 use Rattle.ccp_messages.proofs.Encoding.{length-frame}
 use Rattle.campaign_core.specs.CampaignWord.{next_of}

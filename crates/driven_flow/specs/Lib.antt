@@ -9,6 +9,7 @@ pub mod DrivenCases
 pub mod Front
 pub mod Session
 pub mod DrivenText
+pub mod SessionLaws
 -- those that only private contracts, invariants and proofs cite
 pub mod DrivenParts
 pub mod DrivenJournals

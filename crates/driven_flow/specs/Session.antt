@@ -13,7 +13,6 @@ use Rattle.ccp_messages.specs.declared.message.Message.TheVariants.{Create, Meas
 use Rattle.ccp_messages.specs.declared.reason.Reason.{Reason}
 use Rattle.ccp_messages.specs.declared.reason.Reason.TheVariants.{NoFlow, ProgramAbove, NoProgram, NoRegister}
 use Rattle.feed_core.specs.Feed.{Answer}
-use Rattle.reg_code.specs.declared.code.Code.{Code}
 use Rattle.campaign_core.specs.CampaignWord.{next_of}
 use Rattle.flow_core.specs.declared.letter.Letter.{Letter}
 use Rattle.flow_core.specs.declared.letter.Letter.TheVariants.{A, T, C}

@@ -14,6 +14,7 @@ mod refusal;
 mod running;
 mod scene;
 mod session;
+mod session_laws;
 mod state;
 mod timeline;
 
@@ -26,3 +27,4 @@ pub use refusal::Refusal;
 pub use scene::driven_cases;
 pub use session::Session;
 pub use timeline::put_flow_part;
+pub use session_laws::{session_law, session_lift_law};

@@ -1,5 +1,5 @@
 //! What the flows of a session say, as messages.
-ghost use Rattle.std.specs.Prelude.{◌≡◌, Some, length};
+ghost use Rattle.std.specs.Prelude.{◌≡◌, Some};
 ghost use Rattle.feed_core.specs.FeedHolds.{HasShortFrame};
 ghost use Rattle.driven_flow.specs.Session.{version_for, message_of, IsShort};
 

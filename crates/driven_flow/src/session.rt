@@ -45,7 +45,7 @@ impl<'p> Model for Session<'p> {
 }
 
 impl<'p> Session<'p> {
-    ghost use Rattle.driven_flow.specs.Driven.{is_known, ReadsAsSources};
+    ghost use Rattle.driven_flow.specs.Driven.{is_known};
     ghost use Rattle.driven_flow.specs.Session.{opening, first_frame, created, waiting, waits, running, refusal, turned};
     ghost use Rattle.driven_flow.specs.Session.{gone_on, stopped, with_ended, accepted, heard, hear, reported};
     ghost use Rattle.driven_flow.specs.SessionHolds.{IsAccepted, CanGoOn};
