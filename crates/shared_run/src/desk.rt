@@ -1,9 +1,9 @@
 //! What the caller of a run keeps from round to round.
-ghost use Rattle.std.specs.Prelude.{◌≡◌, length};
+ghost use Rattle.std.specs.Prelude.{◌≡◌, [], length};
 
 use crate::course::Course;
 use crate::known_flow::KnownFlow;
-use crate::order::{Order, Part};
+use crate::order::Part;
 use shared_link::{Ask, SharedLink};
 use std::alloc::Global;
 
@@ -15,8 +15,6 @@ pub(crate) struct Desk<C: Course> {
     pub(crate) known: Vec<KnownFlow<C>>,
     /// What the flows ask the link for, in order.
     pub(crate) asks: Vec<Ask>,
-    /// The lists of the orders that are done. Their memory serves one round after another.
-    pub(crate) spare: Vec<Vec<Part<C>>>,
 }
 
 impl<C: Course> Desk<C> {
@@ -29,27 +27,12 @@ impl<C: Course> Desk<C> {
             link,
             known,
             asks: Vec::new(alloc),
-            spare: Vec::new(alloc),
         }
     }
 
-    /// Takes in an order whose parts are done. If there is no memory to keep its list, a later order takes a new one.
-    pub(crate) fn take_in(&mut self, order: Order<C>)
-        ensures link { self.new.link ≡ self.old.link }
-        ensures known { length self.new.known.items ≡ length self.old.known.items }
-    {
-        let (mut earlier, last) = order.into_parts();
-        if let Some(part) = last {
-            self.take_part(part);
-        }
-        while let Some(part) = earlier.pop() {
-            self.take_part(part);
-        }
-        let _unkept = self.spare.push(earlier);
-    }
-
-    /// Keeps what is known of a part's flow, and gives the link the list of its acknowledgements back.
-    fn take_part(&mut self, part: Part<C>)
+    /// Takes in a part that is done: keeps what is known of its flow, and gives the link the list of its
+    /// acknowledgements back.
+    pub(crate) fn take_in(&mut self, part: Part<C>)
         ensures link { self.new.link ≡ self.old.link }
         ensures known { length self.new.known.items ≡ length self.old.known.items }
     {
@@ -58,6 +41,17 @@ impl<C: Course> Desk<C> {
             keep(self.known.as_mut_slice(), flow);
         }
         self.link.give_back(acks.number, acks.into_acks());
+    }
+
+    /// Takes in parts that are done, and leaves none. The list keeps its memory.
+    pub(crate) fn take_in_all(&mut self, parts: &mut Vec<Part<C>>)
+        ensures none { parts.new.items ≡ [] }
+        ensures link { self.new.link ≡ self.old.link }
+        ensures known { length self.new.known.items ≡ length self.old.known.items }
+    {
+        while let Some(part) = parts.pop() {
+            self.take_in(part);
+        }
     }
 
     /// The link.

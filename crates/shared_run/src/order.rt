@@ -1,9 +1,11 @@
 //! What a worker is to do in a round: the parts of its flows.
-ghost use Rattle.std.specs.Prelude.{◌≡◌, ◌%◌, [], map, option_to_list, OnOk};
+ghost use Rattle.std.specs.Prelude.{◌≡◌, ◌%◌, ◌≤◌, [], length, map, option_to_list, IfOk, OnOk};
 ghost use Rattle.std.specs.List.{All};
+ghost use Rattle.ccp_base.specs.Limits.{most_workers};
 ghost use Rattle.shared_run.specs.Orders.{FlowPart, OrderState, with_flow_part, AreDealt};
 
 use crate::course::Course;
+use crate::desk::Desk;
 use crate::flows::do_part;
 use crate::known_flow::KnownFlow;
 use crate::round_acks::RoundAcks;
@@ -54,18 +56,26 @@ impl<C: Course> Model for Order<C> {
 }
 
 impl<C: Course> Order<C> {
-    /// An order without a part. The list's memory serves it.
-    fn new(spare: Vec<Part<C>>, worker: u32, workers: u32) -> Self
+    /// An order without a part. It takes no memory yet.
+    fn new(alloc: Global, worker: u32, workers: u32) -> Self
         ensures { result ≡ record { worker = worker; workers = workers; parts = [] } }
     {
-        let mut earlier = spare;
-        earlier.clear();
         Order {
             worker,
             workers,
-            earlier,
+            earlier: Vec::new(alloc),
             last: None,
         }
+    }
+
+    /// Begins anew without a part, as the order of this worker. The order keeps its memory.
+    fn begin(&mut self, worker: u32, workers: u32)
+        ensures { self.new ≡ record { worker = worker; workers = workers; parts = [] } }
+    {
+        self.earlier.clear();
+        self.last = None;
+        self.worker = worker;
+        self.workers = workers;
     }
 
     /// Adds the part of a flow of the worker, in which the flow is given these acknowledgements.
@@ -116,9 +126,24 @@ impl<C: Course> Order<C> {
         do_last(rt, alloc, flows, worker, &mut self.last, gate);
     }
 
-    /// The parts before the last one, and the last one.
-    pub(crate) fn into_parts(self) -> (Vec<Part<C>>, Option<Part<C>>) {
-        (self.earlier, self.last)
+    /// Hands the parts in at the desk, once they are done. The order is without a part then, and keeps its memory.
+    pub(crate) fn hand_in(&mut self, desk: &mut Desk<C>)
+        ensures none { self.new.parts ≡ [] }
+        ensures link { desk.new.link ≡ desk.old.link }
+        ensures known { length desk.new.known.items ≡ length desk.old.known.items }
+    {
+        desk.take_in_all(&mut self.earlier);
+        if let Some(part) = self.last.take() {
+            desk.take_in(part);
+        }
+    }
+
+    /// Takes the order out of its place, where one without a part is then.
+    pub(crate) fn take(&mut self, alloc: Global) -> Self
+        ensures { result ≡ self.old }
+    {
+        let none = Order::new(alloc, self.worker, self.workers);
+        std::mem::replace(self, none)
     }
 }
 
@@ -181,27 +206,27 @@ fn do_one<C: Course, F: RoundFlow, R: Wait, G: Gate>(
     gate.pass(worker, Point::AfterCase, number);
 }
 
-/// Puts the orders of workers, without a part, into a list. They have the lists that are spare.
-pub(crate) fn open_orders<C: Course>(
-    alloc: Global,
-    orders: &mut Vec<Order<C>>,
-    spare: &mut Vec<Vec<Part<C>>>,
-    workers: u32,
-) -> Result<(), NoMemory>
-    ensures { OnOk result (AreDealt workers [] orders.new.items) }
+/// An order for each worker, in their order. They serve one round after another.
+pub(crate) fn open_orders<C: Course>(alloc: Global, workers: u32) -> Result<Vec<Order<C>>, NoMemory>
+    ensures { IfOk result (λ orders. length orders.items ≡ workers) }
 {
-    orders.clear();
+    let mut orders = Vec::new(alloc);
     for worker in 0..workers {
-        let list = spare_list(alloc, spare);
-        orders.push(Order::new(list, worker, workers))?;
+        orders.push(Order::new(alloc, worker, workers))?;
     }
-    Ok(())
+    Ok(orders)
 }
 
-/// A list of an order that is spare, or a new one, which takes no memory yet.
-fn spare_list<C: Course>(alloc: Global, spare: &mut Vec<Vec<Part<C>>>) -> Vec<Part<C>> {
-    match spare.pop() {
-        Some(parts) => parts,
-        None => Vec::new(alloc),
+/// Begins the orders of a round: each is without a part, and in the place of its worker. The orders keep their memory.
+/// Their workers' numbers are set anew, since an order that a thread sent back is known by its type alone.
+pub(crate) fn begin_orders<C: Course>(orders: &mut [Order<C>])
+    requires { length orders.old ≤ most_workers }
+    ensures { AreDealt (length orders.old) [] orders.new }
+{
+    let workers = orders.len() as u32;
+    let mut worker = 0;
+    for order in orders.iter_mut() {
+        order.begin(worker, workers);
+        worker += 1;
     }
 }

@@ -9,7 +9,7 @@ use crate::course::Course;
 use crate::desk::Desk;
 use crate::flows::{collect_asks, know_flows, none_left, rest_flow, rest_flows, with_rest};
 use crate::line::Bell;
-use crate::order::{Order, open_orders};
+use crate::order::{Order, begin_orders, open_orders};
 use crate::round_acks::RoundAcks;
 use crate::round_flow::RoundFlow;
 use crate::run_flow::LockedRunFlow;
@@ -32,7 +32,7 @@ pub(crate) struct RunEnd {
 /// `f mod workers`. A flow without acknowledgements stays as it is, and the link gets its list back.
 fn deal<C: Course>(
     desk: &mut Desk<C>,
-    orders: &mut Vec<Order<C>>,
+    orders: &mut [Order<C>],
     lists: AckLists,
     round: u32,
     workers: u32,
@@ -42,10 +42,10 @@ fn deal<C: Course>(
     requires lists { lists ≡ acks_in_round C.link C.cases round }
     requires few { length lists ≤ most_flows }
     requires round { round < most_rounds }
-    requires none { AreDealt workers [] orders.old.items }
+    requires none { AreDealt workers [] orders.old }
     ensures link { desk.new.link ≡ desk.old.link }
     ensures known { length desk.new.known.items ≡ length desk.old.known.items }
-    ensures orders { OnOk result (AreDealt workers lists orders.new.items) }
+    ensures orders { OnOk result (AreDealt workers lists orders.new) }
 {
     let mut number = 0;
     for list in lists.into_vec() {
@@ -59,15 +59,15 @@ fn deal<C: Course>(
 /// Puts a flow's part into the order of its worker, if the flow has acknowledgements.
 fn deal_part<C: Course>(
     desk: &mut Desk<C>,
-    orders: &mut Vec<Order<C>>,
+    orders: &mut [Order<C>],
     acks: RoundAcks<C>,
     workers: u32,
 ) -> Result<(), NoMemory>
     requires workers { 1 ≤ workers }
-    requires before { IsDealtBefore workers acks.number orders.old.items }
+    requires before { IsDealtBefore workers acks.number orders.old }
     ensures link { desk.new.link ≡ desk.old.link }
     ensures known { length desk.new.known.items ≡ length desk.old.known.items }
-    ensures orders { OnOk result (DealsOne workers (acks.number, acks.acks) orders.old.items orders.new.items) }
+    ensures orders { OnOk result (DealsOne workers (acks.number, acks.acks) orders.old orders.new) }
 {
     if acks.acks.as_slice().is_empty() {
         rest_flow(desk.known.as_mut_slice(), &acks);
@@ -94,13 +94,14 @@ fn run_round<'e, C: Course, F: RoundFlow, R: Wait, G: Gate>(
     alloc: Global,
     flows: &[LockedRunFlow<C, F>],
     desk: &mut Desk<C>,
-    orders: &mut Vec<Order<C>>,
+    orders: &mut [Order<C>],
     handles: &mut [WorkerHandle<'e, C>],
     done: u32,
     gate: &G,
 ) -> Result<(), NoMemory>
     requires workers { 1 ≤ length handles.old }
     requires few_workers { length handles.old ≤ most_workers }
+    requires orders { length orders.old ≡ length handles.old }
     requires known { length desk.old.known.items ≡ length C.cases }
     requires few { length C.cases ≤ most_flows }
     requires within { IsWithin C.link }
@@ -114,7 +115,7 @@ fn run_round<'e, C: Course, F: RoundFlow, R: Wait, G: Gate>(
 {
     let lists = desk.link.round(alloc, desk.asks.as_slice())?;
     let workers = handles.len() as u32;
-    open_orders(alloc, orders, &mut desk.spare, workers)?;
+    begin_orders(orders);
     deal(desk, orders, lists, done, workers)?;
     do_orders(rt, alloc, flows, desk, orders, handles, gate);
     collect_asks(desk.known.as_slice(), done + 1, &mut desk.asks)
@@ -140,11 +141,12 @@ fn run_rounds<'e, C: Course, F: RoundFlow, R: Wait, G: Gate>(
     requires rounds { most ≤ most_rounds }
     ensures { IfOk result (λ done. HasEnded C.link C.cases most done desk.new.link) }
 {
-    let mut orders = Vec::new(alloc);
+    let mut kept = open_orders(alloc, handles.len() as u32)?;
+    let orders = kept.as_mut_slice();
     let mut done = 0;
     collect_asks(desk.known.as_slice(), 0, &mut desk.asks)?;
     while done < most {
-        run_round(rt, alloc, flows, desk, &mut orders, handles, done, gate)?;
+        run_round(rt, alloc, flows, desk, orders, handles, done, gate)?;
         done += 1;
         if none_left(desk.asks.as_slice()) {
             return Ok(done);

@@ -1,5 +1,5 @@
 //! The workers of a run as its caller has them: the caller hands out the orders of a round and takes them back.
-ghost use Rattle.std.specs.Prelude.{◌≡◌, ◌<◌, length, IfOk};
+ghost use Rattle.std.specs.Prelude.{◌≡◌, ◌<◌, ◌≤◌, length, IfOk};
 
 use crate::course::Course;
 use crate::desk::Desk;
@@ -90,14 +90,17 @@ fn start_worker<
 }
 
 impl<'e, C: Course> WorkerHandle<'e, C> {
-    /// Hands an order to the worker's thread, or gives it back if the worker has none.
-    fn hand_out(&mut self, order: Order<C>) -> Option<Order<C>> {
+    /// Hands an order to the worker's thread, and says whether that has it then. If not, the order stays in its place.
+    fn hand_out(&mut self, alloc: Global, order: &mut Order<C>) -> bool {
         let Some(lines) = &mut self.lines else {
-            return Some(order);
+            return false;
         };
-        let unsent = lines.orders.send(order);
-        self.is_busy = unsent.is_none();
-        unsent
+        if let Some(unsent) = lines.orders.send(order.take(alloc)) {
+            *order = unsent;
+            return false;
+        }
+        self.is_busy = true;
+        true
     }
 
     /// Waits until the worker's thread has done its order, if it has one.
@@ -114,22 +117,22 @@ impl<'e, C: Course> WorkerHandle<'e, C> {
 /// than they take.
 const FEW_ACKS: usize = 2048;
 
-/// Does all orders of a round, and leaves none. In a round with few acknowledgements the caller does all of them. Else
-/// it does the first one that has a part, beside the threads that do the others: a thread is woken only if two workers
-/// have parts.
+/// Does all orders of a round, and leaves no part in them. In a round with few acknowledgements the caller does all of
+/// them. Else it does the first one that has a part, beside the threads that do the others: a thread is woken only if
+/// two workers have parts.
 pub(crate) fn do_orders<'e, C: Course, F: RoundFlow, R: Wait, G: Gate>(
     rt: &R,
     alloc: Global,
     flows: &[LockedRunFlow<C, F>],
     desk: &mut Desk<C>,
-    orders: &mut Vec<Order<C>>,
+    orders: &mut [Order<C>],
     handles: &mut [WorkerHandle<'e, C>],
     gate: &G,
 )
     ensures link { desk.new.link ≡ desk.old.link }
     ensures known { length desk.new.known.items ≡ length desk.old.known.items }
 {
-    if acks_in(orders.as_slice()) < FEW_ACKS {
+    if acks_in(orders) < FEW_ACKS {
         do_all_here(rt, alloc, flows, desk, orders, gate);
     } else {
         do_by_threads(rt, alloc, flows, desk, orders, handles, gate);
@@ -145,66 +148,74 @@ fn acks_in<C: Course>(orders: &[Order<C>]) -> usize {
     acks
 }
 
-/// Does all orders here, the last one first, and leaves none.
+/// Does all orders here, the last one first, and leaves no part in them.
 fn do_all_here<C: Course, F: RoundFlow, R: Wait, G: Gate>(
     rt: &R,
     alloc: Global,
     flows: &[LockedRunFlow<C, F>],
     desk: &mut Desk<C>,
-    orders: &mut Vec<Order<C>>,
+    orders: &mut [Order<C>],
     gate: &G,
 )
     ensures link { desk.new.link ≡ desk.old.link }
     ensures known { length desk.new.known.items ≡ length desk.old.known.items }
 {
-    while let Some(order) = orders.pop() {
+    for order in orders.iter_mut().rev() {
         do_here(rt, alloc, flows, desk, order, gate);
     }
 }
 
-/// Does the first order that has a part here, and the others on their workers' threads, and leaves none.
+/// Does the first order that has a part here, and the others on their workers' threads, and leaves no part in them.
 fn do_by_threads<'e, C: Course, F: RoundFlow, R: Wait, G: Gate>(
     rt: &R,
     alloc: Global,
     flows: &[LockedRunFlow<C, F>],
     desk: &mut Desk<C>,
-    orders: &mut Vec<Order<C>>,
+    orders: &mut [Order<C>],
     handles: &mut [WorkerHandle<'e, C>],
     gate: &G,
 )
     ensures link { desk.new.link ≡ desk.old.link }
     ensures known { length desk.new.known.items ≡ length desk.old.known.items }
 {
-    let first = hand_out_all(rt, alloc, flows, desk, orders, handles, gate);
-    if let Some(order) = first {
-        do_here(rt, alloc, flows, desk, order, gate);
+    let idle = idle_at_front(orders);
+    let (_, busy) = orders.split_at_mut(idle);
+    if let Some((first, others)) = busy.split_first_mut() {
+        hand_out_all(rt, alloc, flows, desk, others, handles, gate);
+        do_here(rt, alloc, flows, desk, first, gate);
     }
-    take_back_all(rt, desk, handles);
+    take_back_all(rt, desk, orders, handles);
 }
 
-/// Hands the orders that have a part to their workers' threads, the last one first. It keeps the first one and gives it
-/// back.
+/// How many orders without a part there are before the first one that has one.
+fn idle_at_front<C: Course>(orders: &[Order<C>]) -> usize
+    ensures { result ≤ length orders.now }
+{
+    let mut idle = 0;
+    while idle < orders.len() && orders[idle].is_empty() {
+        idle += 1;
+    }
+    idle
+}
+
+/// Hands the orders that have a part to their workers' threads.
 fn hand_out_all<'e, C: Course, F: RoundFlow, R: Wait, G: Gate>(
     rt: &R,
     alloc: Global,
     flows: &[LockedRunFlow<C, F>],
     desk: &mut Desk<C>,
-    orders: &mut Vec<Order<C>>,
+    orders: &mut [Order<C>],
     handles: &mut [WorkerHandle<'e, C>],
     gate: &G,
-) -> Option<Order<C>>
+)
     ensures link { desk.new.link ≡ desk.old.link }
     ensures known { length desk.new.known.items ≡ length desk.old.known.items }
 {
-    let mut first = None;
-    while let Some(order) = orders.pop() {
-        if order.is_empty() {
-            desk.take_in(order);
-        } else if let Some(later) = std::mem::replace(&mut first, Some(order)) {
-            hand_out(rt, alloc, flows, desk, later, handles, gate);
+    for order in orders.iter_mut() {
+        if !order.is_empty() {
+            hand_out(rt, alloc, flows, desk, order, handles, gate);
         }
     }
-    first
 }
 
 /// Hands an order to its worker's thread. If the worker has none, the order is done here.
@@ -213,18 +224,18 @@ fn hand_out<'e, C: Course, F: RoundFlow, R: Wait, G: Gate>(
     alloc: Global,
     flows: &[LockedRunFlow<C, F>],
     desk: &mut Desk<C>,
-    order: Order<C>,
+    order: &mut Order<C>,
     handles: &mut [WorkerHandle<'e, C>],
     gate: &G,
 )
     ensures link { desk.new.link ≡ desk.old.link }
     ensures known { length desk.new.known.items ≡ length desk.old.known.items }
 {
-    let unsent = match handles.get_mut(order.worker() as usize) {
-        Some(handle) => handle.hand_out(order),
-        None => Some(order),
+    let is_out = match handles.get_mut(order.worker() as usize) {
+        Some(handle) => handle.hand_out(alloc, order),
+        None => false,
     };
-    if let Some(order) = unsent {
+    if !is_out {
         do_here(rt, alloc, flows, desk, order, gate);
     }
 }
@@ -235,29 +246,37 @@ fn do_here<C: Course, F: RoundFlow, R: Wait, G: Gate>(
     alloc: Global,
     flows: &[LockedRunFlow<C, F>],
     desk: &mut Desk<C>,
-    order: Order<C>,
+    order: &mut Order<C>,
     gate: &G,
 )
     ensures link { desk.new.link ≡ desk.old.link }
     ensures known { length desk.new.known.items ≡ length desk.old.known.items }
 {
-    let mut order = order;
     order.do_parts(rt, alloc, flows, gate);
-    desk.take_in(order);
+    order.hand_in(desk);
 }
 
-/// Waits for the threads that have orders.
+/// Waits for the threads that have orders, and puts these back into their places.
 fn take_back_all<'e, C: Course, R: Wait>(
     rt: &R,
     desk: &mut Desk<C>,
+    orders: &mut [Order<C>],
     handles: &mut [WorkerHandle<'e, C>],
 )
     ensures link { desk.new.link ≡ desk.old.link }
     ensures known { length desk.new.known.items ≡ length desk.old.known.items }
 {
     for handle in handles {
-        if let Some(order) = handle.take_back(rt) {
-            desk.take_in(order);
+        if let Some(mut order) = handle.take_back(rt) {
+            order.hand_in(desk);
+            put_back(orders, order);
         }
+    }
+}
+
+/// Puts an order back into the place of its worker, so that its memory serves the next round.
+fn put_back<C: Course>(orders: &mut [Order<C>], order: Order<C>) {
+    if let Some(place) = orders.get_mut(order.worker() as usize) {
+        *place = order;
     }
 }

@@ -45,7 +45,7 @@ loop-list-preserved g c =
       dropped_on all l.number c.in-Some.list rest (sym is ∙ l.invariant.0),
       omega (arith, shorter, l.invariant.1),
       omega (arith, shorter, c.in-Some.ensures.steps.1, l.invariant.2),
-      subst (λ (xs : List (List Ack)). AreDealt c.args.workers xs c.deal_part.new.orders.items) longer dealt,
+      subst (λ (xs : List (List Ack)). AreDealt c.args.workers xs c.deal_part.new.orders) longer dealt,
       c.in_ok-deal_part.ensures.link ∙ l.invariant.4,
       c.in_ok-deal_part.ensures.known ∙ l.invariant.5,
     )

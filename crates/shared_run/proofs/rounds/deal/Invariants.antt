@@ -9,6 +9,6 @@ invariant-loop-list g l =
     (into_iter_items l.list-iterator ≡ drop l.number (acks_in_round g.C.Course.link g.C.Course.cases l.round))
     × (l.number + length (into_iter_items l.list-iterator) ≡ length (acks_in_round g.C.Course.link g.C.Course.cases l.round))
     × (into_iter_len l.list-iterator ≡ length (into_iter_items l.list-iterator))
-    × AreDealt l.workers (take l.number (acks_in_round g.C.Course.link g.C.Course.cases l.round)) l.orders.items
+    × AreDealt l.workers (take l.number (acks_in_round g.C.Course.link g.C.Course.cases l.round)) l.orders
     × (l.desk.link ≡ l.fn.desk.link)
     × (length l.desk.known.items ≡ length l.fn.desk.known.items)

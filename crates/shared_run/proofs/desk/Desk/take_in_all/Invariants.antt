@@ -1,8 +1,8 @@
 use Rattle.std.proofs.Common.{◌≡◌, length}
-use Rattle.shared_run.proofs.desk.Desk.take_in.Given as goal
+use Rattle.shared_run.proofs.desk.Desk.take_in_all.Given as goal
 
 abbrev pub invariant-loop-part : goal.invariant-loop-part
 invariant-loop-part g l = (l.self.link ≡ l.fn.self.link) × (length l.self.known.items ≡ length l.fn.self.known.items)
 
 abbrev pub decreases-loop-part : goal.decreases-loop-part
-decreases-loop-part g l = length l.earlier.items
+decreases-loop-part g l = length l.parts.items
