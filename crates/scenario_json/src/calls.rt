@@ -50,8 +50,10 @@ pub fn scenario(alloc: Global, text: &[u8], mode: SceneMode) -> Result<Scenario,
         scene_of mode text.now ≡ Ok (scene_with (sources_of s.programs) (map plan_of s.cases))) }
     ensures refused { IfErr result (λ e. e ≢ fault.NoMemory → scene_of mode text.now ≡ Err e) }
 
-    // The programs' numbers are their places, from 0 on, and each program's code is the compiler's.
+    // The programs' numbers are their places, from 0 on.
     ensures numbered { IfOk result (λ s. AreNumberedFrom 0 s.programs) }
+
+    // Each program has the code that the compiler makes of it, with the places of its instructions.
     ensures compiled { IfOk result (λ s. AreCompiled s.programs) }
 
     // Each case has the codes of its programs, and an agent in its initial state; case i is flow i.
