@@ -275,8 +275,11 @@ def test_what_is_refused(program, tmp_path, words, status, error):
     assert made.status == status and error in made.errors and "Traceback" not in made.errors, made.errors
 
 
-def test_a_trace_that_is_given_twice_is_named():
-    assert compare.twice([(None, "a"), ("b", "a"), (None, "c")]) == ["a is given 2 times"]
+def test_a_trace_that_is_given_twice_is_named_once(program, tmp_path):
+    words = (TRACES[0], TRACES[0], "--senders", "reno", "--seconds", "0.2", "--dry-run")
+    made = command("compare", *words)
+    assert made.status == 0 and made.errors == "ccp: warning: the trace %s is given more than once\n" % TRACES[0]
+    assert command("compare", *words, "--quiet").errors == ""
 
 
 def test_an_option_beside_the_file_replaces_its_alternative(tmp_path):
