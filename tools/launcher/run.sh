@@ -27,7 +27,8 @@ begin_search() {
         cd "$here/crates" || exit
         export LC_ALL=C
         find -files0-from "$known.antt" -maxdepth 0 -cnewer "$known" -print -quit &
-        exec find -files0-from "$known.sources" -maxdepth 0 -cnewer "$known" -print -quit
+        find -files0-from "$known.sources" -maxdepth 0 -cnewer "$known" -print -quit
+        wait
     )
     searcher=$!
 }
