@@ -178,6 +178,8 @@ def test_figures_over_small_changes():
     pair = "linux-reno and linux-cubic"
     assert not holds[limits.ORDER, pair] and holds[limits.ORDER + ", means over small changes", pair]
     assert pages.orders(found, frame).splitlines()[2].endswith("| no | 2.0 ±1.0, 3.0 ±1.0 | 3 of 3 |")
+    line = "| fixed | 100 | 20 | ccp | cubic | 10.00 ±0.00 | 10 ±0 | 5.0 ±1.0 | 100 ±0 |"
+    assert line in pages.changes_table(frame).splitlines()
 
 
 # ---- limits
@@ -280,5 +282,5 @@ def test_other_files_are_refused(tmp_path):
     path.write_text("a,b\n1,2\n")
     with pytest.raises(CcpError, match="columns stack, version"):
         results.read(path)
-    with pytest.raises(CcpError, match="no results.csv"):
+    with pytest.raises(CcpError, match="no results.csv or other figures"):
         sections.kept_in(tmp_path)

@@ -81,6 +81,15 @@ def order_over(changes: pd.DataFrame, one: Finding) -> List[str]:
     return [spread.wait_text(changes, "ccp", pair, one.cell), count]
 
 
+def changes_table(changes: pd.DataFrame) -> str:
+    """The means over small changes of each cell, with their standard deviations."""
+    rows = []
+    for row in changes.to_dict("records"):
+        values = [(form + " ±" + form) % (row[name + "_mean"], row[name + "_sd"]) for name, form in SHOWN]
+        rows.append([*(str(row[name]) for name in ("trace", "queue", "delay_ms", "stack", "sender")), *values])
+    return table(["trace", "queue", "ms", "stack", "sender", *HEADS], rows)
+
+
 def limits(found: Sequence[Finding]) -> str:
     """How many cells of each limit hold, and those that don't."""
     rows = []

@@ -21,12 +21,13 @@ class Kept:
 
 
 def kept_in(folder: Path) -> Kept:
-    """What the files of a folder give. A folder without one of them is a CcpError."""
-    kept = Kept()
+    """What the files of a folder give. A folder without any is a CcpError."""
+    kept, changes = Kept(), None
+    if (folder / "spread.csv").exists():
+        changes = results.read(folder / "spread.csv", spread.COLUMNS)
+        kept.printed.append(pages.changes_table(changes))
     if (folder / "results.csv").exists():
         frame = results.read(folder / "results.csv")
-        path = folder / "spread.csv"
-        changes = results.read(path, spread.COLUMNS) if path.exists() else None
         kept.found = limits.findings(frame, limits.reference_of(frame), changes)
         kept.made.update(pages.sections(frame, kept.found, changes))
         kept.printed += [pages.grid(frame), kept.made["orders"], kept.made["limits"]]
@@ -39,5 +40,5 @@ def kept_in(folder: Path) -> Kept:
         kept.made["shares"] = shares.shares_table(results.read(folder / "shares.csv", shares.COLUMNS))
         kept.printed.append(kept.made["shares"])
     if not kept.printed:
-        raise CcpError("%s: no results.csv, chance.csv or shares.csv of bench/fidelity is there" % folder)
+        raise CcpError("%s: no results.csv or other figures of bench/fidelity are there" % folder)
     return kept
