@@ -23,9 +23,10 @@ if [ ! -d "$launcher" ]; then launcher=${here%/*}/libexec/ccp/launcher; fi
 if [ ! -d "$launcher" ]; then here=$(cd -P "$here" && pwd) launcher=${here%/*}/libexec/ccp/launcher; fi
 # shellcheck source=tools/launcher/tables.sh
 . "$launcher/tables.sh"
+needs_search=''
+if [[ " ${modes[*]} " == *" ${1-} "* ]]; then needs_search=yes; fi
 # shellcheck source=tools/launcher/run.sh
 . "$launcher/run.sh"
-if [[ " ${modes[*]} " == *" ${1-} "* ]]; then begin_search; fi
 # shellcheck source=tools/launcher/words.sh
 . "$launcher/words.sh"
 

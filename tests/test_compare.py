@@ -275,8 +275,11 @@ def test_what_is_refused(program, tmp_path, words, status, error):
     assert made.status == status and error in made.errors and "Traceback" not in made.errors, made.errors
 
 
-def test_a_trace_that_is_given_twice_is_named():
-    assert compare.twice([(None, "a"), ("b", "a"), (None, "c")]) == ["a is given 2 times"]
+def test_a_trace_that_is_given_twice_is_named_once(program, tmp_path):
+    words = (TRACES[0], TRACES[0], "--senders", "reno", "--seconds", "0.2", "--dry-run")
+    made = command("compare", *words)
+    assert made.status == 0 and made.errors == "ccp: warning: the trace %s is given more than once\n" % TRACES[0]
+    assert command("compare", *words, "--quiet").errors == ""
 
 
 def test_an_option_beside_the_file_replaces_its_alternative(tmp_path):
@@ -480,3 +483,38 @@ def test_senders_together(program, tmp_path):
     for number, name in enumerate(shared["senders"]):
         row = next(line.split(" ") for line in table.split("\n") if line.startswith("fixed-%s " % name))
         assert int(row[9]) == shared["acked_bytes"][-1][number]
+
+
+@pytest.mark.slow
+def test_senders_together_over_seeds(program, tmp_path):
+    """A run for each seed: the table has means with intervals, and plots are of the first seed."""
+    words = [TRACES[0], "--senders", "reno,cubic", "--seconds", "1", "--queue", "20,40", "--shared", "--quiet"]
+    made = command("compare", *words, "--losses", "rate:0.01", "--seeds", "3..5", "--out", tmp_path / "out")
+    assert made.status == 0, made.errors
+    files = {path.name for path in (tmp_path / "out").glob("shared-fixed*.txt")}
+    assert files == {"shared-fixed.txt", "shared-fixed-s4.txt", "shared-fixed-s5.txt"}
+    figures = json.loads((tmp_path / "out" / "shared.json").read_text())["shared"][0]["figures"]
+    assert [(row["sender"], row["seed"]) for row in figures[:3]] == [("reno", 3), ("cubic", 3), ("reno", 4)]
+    shares = [row["share"] for row in figures if row["sender"] == "reno"]
+    mean = sum(shares) / 3
+    # 4.303 is the quantile 0.975 of Student's t with two degrees of freedom
+    half = 4.3026527 * (sum((one - mean) ** 2 for one in shares) / 2 / 3) ** 0.5
+    page = (tmp_path / "out" / "report.html").read_text()
+    assert "<td>reno</td>" in page and "%.1f ±%.1f" % (100 * mean, 100 * half) in page
+    assert "in a run for each seed" in page and "Plots over time are of the first queue" in page
+    for number, seed in ((0, ""), (2, "-s4")):
+        table = (tmp_path / "out" / ("shared-fixed%s.txt" % seed)).read_text().splitlines()
+        row = next(line.split(" ") for line in table if line.startswith("fixed-reno"))
+        assert abs(8 * int(row[9]) / 1e6 - figures[number]["throughput_mbps"]) < 1e-6
+
+
+def test_what_only_some_seeds_have():
+    row = {"sender": "a", "doubts": "", **{name: 0.5 for name in shared.FIGURES}}
+    rows = [
+        {**row, "converged_s": 1.5},
+        {**row, "converged_s": None},
+        {**row, "converged_s": 2.5, "doubts": "no report"},
+    ]
+    found = shared.table_of([shared.Sharing("t", ["a"], None, rows, 1000)])
+    assert found[0]["cells"][-1] == "2.00 ±6.35 in 2 of 3" and found[0]["doubts"] == "no report"
+    assert shared.table_of([shared.Sharing("t", ["a"], None, rows[1:2], 1000)])[0]["cells"][-2:] == ["50.00", "none"]

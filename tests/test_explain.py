@@ -9,7 +9,7 @@ from typing import Any, List, Optional, Sequence
 
 import pytest
 from rows_of import runs_of
-from support import EXAMPLES, REPOSITORY, command
+from support import EXAMPLES, REPOSITORY, TRACES, command
 
 from ccp_tools import program as programs
 from ccp_tools.explain import (
@@ -525,6 +525,15 @@ def test_warnings_of_scenarios(program: Path) -> None:
     whole["cases"] *= 2
     explained(program, json.dumps(whole), status=0, holds=["the cases 0 and 1 have one name"])
     explained(program, text, "campaign", status=0, quiet=True, lacks=["warning"])
+    whole["cases"] = [{**whole["cases"][0], "name": "c%d" % at, "Lag": at} for at in range(3)]
+    holds = ["Did you mean `lag`?\n  It is so at 2 more places.", "accepted by campaign, 1 warning"]
+    explained(program, json.dumps(whole), "campaign", status=0, holds=holds)
+
+
+@pytest.mark.parametrize("losses", ["none", "rate:0.01", "17+40"])
+def test_what_ccp_scenario_makes_has_no_warning(program: Path, losses: str) -> None:
+    made = command("scenario", "--senders", "reno,cubic,linux-cubic", "--losses", losses, *TRACES)
+    explained(program, made.output, "campaign", status=0, holds=["accepted by campaign\n"], lacks=["warning"])
 
 
 def test_times_in_other_units(program: Path) -> None:

@@ -1,4 +1,5 @@
-"""bench/fidelity: how logs of links become acknowledgements, its limits, and the page that is made of its figures."""
+"""bench/fidelity: how logs of links become acknowledgements, what is made of losses by chance, of shares and of small
+changes, its limits, and the pages that are made of its figures."""
 from __future__ import annotations
 
 import sys
@@ -12,9 +13,10 @@ pd = require("pandas")
 sys.path.insert(0, str(REPOSITORY / "bench"))
 from ccp_tools.errors import CcpError  # noqa: E402
 from ccp_tools.metrics import Link, figures_of_acks  # noqa: E402
-from fidelity import cases, kernel, limits, logs, model, pages, results  # noqa: E402
+from fidelity import cases, chance, kernel, limits, logs, model, pages, results, sections, shares, spread  # noqa: E402
 
-KEPT = REPOSITORY / "bench" / "fidelity" / "results.csv"
+FOLDER = REPOSITORY / "bench" / "fidelity"
+KEPT = FOLDER / "results.csv"
 PAGES = ["fidelity.md", "senders.md"]
 CASE = cases.Case("fixed", 2, 20, "reno", segments=3)
 # three segments; the second is lost and sent again, and the first is served a second time
@@ -95,6 +97,91 @@ def test_traces_by_name_and_by_file(tmp_path):
         cases.grid(["nowhere"], [50], [20], ["reno"], 10)
 
 
+# ---- losses by chance
+
+
+def test_cases_with_losses_by_chance():
+    plain = cases.grid(["fixed"], [100], [20, 80], ["reno"], 1000)
+    made = cases.by_chance(plain, [0.01], [1, 2])
+    assert [one.name for one in made[:2]] == ["fixed-100-20-reno-0.01-s1", "fixed-100-20-reno-0.01-s2"]
+    assert made[0].losses == made[2].losses != made[1].losses and 5 < len(made[0].losses) < 40
+    scenario = model.scenario_of(made)
+    assert all(len(case["name"]) <= 32 for case in scenario["cases"]) and len(scenario["cases"]) == 8
+    assert scenario["cases"][2]["losses"] == list(made[1].losses)
+
+
+def test_tables_of_losses_by_chance():
+    rows = []
+    for seed, reno, cubic in ((1, 8, 10), (2, 10, 11)):
+        for sender, mbps in (("reno", reno), ("cubic", cubic)):
+            rows.append({**row("ccp", sender, throughput_mbps=mbps), "rate": 0.005, "seed": seed})
+    rows.append({**row("linux", "reno", throughput_mbps=8), "rate": 0.005, "seed": 1})
+    frame = pd.DataFrame(rows)
+    # 12.706 is the quantile 0.975 of Student's t with one degree of freedom
+    assert chance.throughput(frame).splitlines()[2:] == [
+        "| 0.5 % | 20 | reno | 9.00 ±12.71 | - | - | 8.00 |",
+        "| 0.5 % | 20 | cubic | 10.50 ±6.35 | - | - | - |",
+    ]
+    # 25 % and 10 %
+    assert chance.leads(frame).splitlines()[2] == "| 0.5 % | 20 | +18 ±95 | - | - | - |"
+
+
+# ---- shares
+
+
+def test_shares_of_a_log(tmp_path):
+    group = cases.Group((("reno", 20), ("cubic", 80)), seconds=1)
+    log = tmp_path / "link.log"
+    # a segment that is served twice, a lost one, and one that is served after the end
+    log.write_text("0 9 0 0\n1 9 0 0\n2 5 10 1\n3 7 -1 1\n4 8 1000000 1\n5 9 4 1\n")
+    assert shares.segments_in(log, group) == [1, 2] and group.name == "reno20-cubic80"
+    made = shares.scenario_of(group, "linux-%s")
+    assert [case["sender"] for case in made["cases"]] == ["linux-reno", "linux-cubic"]
+    assert [case["delay_us"] for case in made["cases"]] == [20000, 80000] and made["shared"]["rounds"] == 200
+
+
+def test_table_of_shares():
+    group = cases.Group((("reno", 20), ("cubic", 80)))
+    found = [shares.Shared("ccp", "x", "built-in", "this", group, share) for share in ([0.5, 0.5], [0.6, 0.4])]
+    found += [shares.Shared("linux", "y", "", "this", group, share, 20.0) for share in ([0.25, 0.75], [0.2, 0.8])]
+    frame = shares.frame_of(found)
+    assert list(frame["runs"]) == [2, 2, 1, 1, 1, 1] and list(frame["share_mean"][:2]) == pytest.approx([0.55, 0.45])
+    line = "| reno 20, cubic 80 | 55, 45 (±7) | - | - | - | - | 25, 75; 20, 80 |"
+    assert shares.shares_table(frame).splitlines()[2] == line
+
+
+# ---- small changes
+
+
+def test_figures_over_small_changes():
+    near = spread.near(CASE)
+    assert len(near) == 35 and {(one.queue, one.delay_ms) for one in near} >= {(-1, 18), (2, 20), (5, 22)}
+    rows = []
+    for sender, waits in (
+        ("reno", (5, 5, 5)),
+        ("cubic", (4, 5, 6)),
+        ("linux-reno", (1, 2, 3)),
+        ("linux-cubic", (2, 3, 4)),
+    ):
+        rows += [{**row("ccp", sender, queueing_mean_ms=wait), "change": at} for at, wait in enumerate(waits)]
+    rows += [{**row("ns-3", "reno"), "change": 0}]
+    frame = spread.frame_of(pd.DataFrame(rows))
+    cell = ("fixed", 100, 20)
+    assert spread.row_of(frame, "ccp", "cubic", cell)["longer"] == 1
+    assert spread.row_of(frame, "ccp", "linux-cubic", cell)["longer"] == 3
+    assert spread.wait_text(frame, "ccp", ("reno", "cubic"), cell) == "5.0 ±0.0, 5.0 ±1.0"
+    assert spread.wait_text(frame, "ns-3", ("reno", "cubic"), cell) == "-"
+    theirs = [row("linux", "reno", queueing_mean_ms=3), row("linux", "cubic", queueing_mean_ms=4)]
+    ours = [row("ccp", "linux-reno", queueing_mean_ms=3), row("ccp", "linux-cubic", queueing_mean_ms=2)]
+    found = limits.findings(pd.DataFrame([*theirs, *ours]), "linux", frame)
+    holds = {(one.limit, one.sender): one.holds for one in found}
+    pair = "linux-reno and linux-cubic"
+    assert not holds[limits.ORDER, pair] and holds[limits.ORDER + ", means over small changes", pair]
+    assert pages.orders(found, frame).splitlines()[2].endswith("| no | 2.0 ±1.0, 3.0 ±1.0 | 3 of 3 |")
+    line = "| fixed | 100 | 20 | ccp | cubic | 10.00 ±0.00 | 10 ±0 | 5.0 ±1.0 | 100 ±0 |"
+    assert line in pages.changes_table(frame).splitlines()
+
+
 # ---- limits
 
 
@@ -135,6 +222,25 @@ def test_medians_and_ranges():
     assert pages.value_text(figures, "ns-3", "reno", cell, "lost", "%.0f") == "-"
 
 
+# ---- pictures
+
+
+def test_a_picture_of_windows(tmp_path):
+    """Of two runs, whose windows hold from each time on; before its first one a window isn't known."""
+    acks = pd.DataFrame({"now": [1_000_000, 4_000_000]})
+    made = []
+    for sender, segments in (("reno", [3, 30]), ("linux-reno", [4, 20])):
+        windows = pd.DataFrame({"seconds": [0.5, 2.0], "segments": segments})
+        made.append(cases.Outcome(CASE, "ccp", sender, acks, windows))
+    figure = pages.plots.drawn(pages.LOOK, lambda: [pages.windows(made)])[0]
+    (panel,) = figure.axes
+    first, second = (line.get_ydata() for line in panel.get_lines())
+    assert first[0] != first[0] and first[-1] == 30 and second[-1] == 20 and panel.get_xlim() == (0, 4)
+    assert [text.get_text() for text in figure.legends[0].get_texts()] == ["ccp, reno", "ccp, linux-reno"]
+    pages.draw(made, tmp_path / "windows.svg")
+    assert (tmp_path / "windows.svg").read_text().startswith("<?xml")
+
+
 # ---- what is kept
 
 
@@ -154,10 +260,8 @@ def test_kept_figures_are_whole():
 
 @pytest.mark.parametrize("name", PAGES)
 def test_page_is_made_of_kept_figures(name):
-    frame = results.read(KEPT)
-    found = limits.findings(frame, limits.reference_of(frame))
     text = (REPOSITORY / "docs" / name).read_text()
-    assert pages.with_sections(text, pages.sections(frame, found), name) == text, "bench/fidelity/run --kept .. --page"
+    assert pages.with_sections(text, sections.kept_in(FOLDER).made, name) == text, "bench/fidelity/run --kept .. --page"
 
 
 def test_page_needs_its_marks():
@@ -178,3 +282,5 @@ def test_other_files_are_refused(tmp_path):
     path.write_text("a,b\n1,2\n")
     with pytest.raises(CcpError, match="columns stack, version"):
         results.read(path)
+    with pytest.raises(CcpError, match="no results.csv or other figures"):
+        sections.kept_in(tmp_path)

@@ -7,7 +7,7 @@ from __future__ import annotations
 import re
 import sys
 from pathlib import Path
-from typing import List
+from typing import Dict, List
 
 import pytest
 from support import REPOSITORY, needs, ran
@@ -38,16 +38,47 @@ def shortened(block: str) -> str:
 PAGES = [page for page in sorted((REPOSITORY / "docs").glob("*.md")) if commands_of(page)]
 
 
-@needs("parallel", "import pandas", "import matplotlib")
-@pytest.mark.parametrize("page", PAGES, ids=lambda page: page.stem)
-def test_the_commands_of_a_page_end_well(page: Path, program: Path, tmp_path: Path) -> None:
-    """They are run one after another, in a folder that has what they read."""
+def room_of(tmp_path: Path, program: Path) -> Dict[str, str]:
+    """Puts into a folder what the commands of the pages read, and gives the variables that they run with."""
     for name in ("examples", "tests"):
         (tmp_path / name).symlink_to(REPOSITORY / name)
     launcher = tmp_path / "ccp"
     launcher.write_text('#!/bin/sh\nexec "%s" "$@"\n' % (REPOSITORY / "ccp"))
     launcher.chmod(0o755)
-    env = {"CCP_PROGRAM": str(program), "CCP_PYTHON": sys.executable}
+    return {"CCP_PROGRAM": str(program), "CCP_PYTHON": sys.executable}
+
+
+@needs("parallel", "import pandas", "import matplotlib")
+@pytest.mark.parametrize("page", PAGES, ids=lambda page: page.stem)
+def test_the_commands_of_a_page_end_well(page: Path, program: Path, tmp_path: Path) -> None:
+    """They are run one after another, in a folder that has what they read."""
+    env = room_of(tmp_path, program)
     for block in commands_of(page):
         done = ran(["bash", "-e", "-c", block], cwd=tmp_path, env=env, timeout=SECONDS)
         assert done.status == 0, "%s\n%s" % (block, done.errors)
+
+
+@needs("import pandas", "import matplotlib")
+def test_the_table_at_the_top_of_readme(program: Path, tmp_path: Path) -> None:
+    """Its command prints these rows, with one more column."""
+    page = (REPOSITORY / "README.md").read_text(encoding="utf-8")
+    table = next(block for _, block in BLOCK.findall(page))
+    line = re.search(r"^Rows of `(\./ccp compare [^`]+)`", page, re.MULTILINE)
+    assert line and table.startswith("trace sender ")
+    done = ran(["bash", "-c", line[1]], cwd=tmp_path, env=room_of(tmp_path, program), timeout=SECONDS)
+    assert done.status == 0, done.errors
+    assert [row.split()[:-1] for row in done.output.splitlines()[: table.count("\n")]] == [
+        row.split() for row in table.splitlines()
+    ]
+
+
+@needs("import pandas", "import matplotlib")
+def test_the_own_comparison_of_readme(program: Path, tmp_path: Path) -> None:
+    """Its commands make the report of a trace, once what they need is installed."""
+    page = (REPOSITORY / "README.md").read_text(encoding="utf-8").partition("**Your own comparison**")[2]
+    lines = BLOCK.findall(page)[0][1].splitlines()
+    assert lines[0].startswith("tools/install ") and lines[-1] == "xdg-open out/report.html"
+    (tmp_path / "my.trace").write_bytes((REPOSITORY / "examples" / "traces" / "wave.trace").read_bytes())
+    block = shortened("\n".join(lines[1:-1]))
+    done = ran(["bash", "-e", "-c", block], cwd=tmp_path, env=room_of(tmp_path, program), timeout=SECONDS)
+    assert done.status == 0 and (tmp_path / "out" / "report.html").is_file(), done.errors

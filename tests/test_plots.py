@@ -14,6 +14,8 @@ require("matplotlib")
 pd = require("pandas")
 np = require("numpy")
 
+from matplotlib.backends.backend_agg import FigureCanvasAgg  # noqa: E402
+
 from ccp_tools import plots, program as programs, scenario  # noqa: E402
 from ccp_tools.errors import CcpError  # noqa: E402
 from ccp_tools.frames import acks_in, read_timeline  # noqa: E402
@@ -163,6 +165,21 @@ def test_pages_and_sizes(files, tmp_path):
         path = tmp_path / "cdf.svg"
         assert command("plot", "cdf", "--size", size, files["acks"], path).status == 0
         assert 'width="%s"' % width in path.read_text()
+
+
+@pytest.mark.parametrize("size", [(252, 170), (252, 200), "column", "screen"])
+def test_no_label_reaches_into_another(size):
+    """Nor out of the figure: a long one is broken, and then made smaller."""
+    look = plots.Look(size)
+    names = ["throughput_mbps", "loss_rate", "queueing_p95_ms"]
+    made = plots.drawn(look, lambda: plots.bars(plots.points_of(pd.DataFrame(METRICS["cases"])), names, look))
+    figure = made[0]
+    renderer = FigureCanvasAgg(figure).get_renderer()
+    figure.draw(renderer)
+    boxes = sorted((one.yaxis.label.get_window_extent(renderer) for one in figure.axes), key=lambda box: box.y0)
+    assert all(below.y1 < above.y0 for below, above in zip(boxes, boxes[1:])) and boxes[0].y0 > 0
+    assert boxes[-1].y1 < figure.bbox.height and all(box.x0 > -2 for box in boxes)
+    assert any("\n" in one.get_ylabel() for one in figure.axes) == (size not in ("column", "screen"))
 
 
 def test_a_line_breaks_where_reports_were_held_and_in_a_gap():

@@ -122,7 +122,7 @@ def test_what_is_found_is_kept_by_the_times_of_files(place: Place) -> None:
     assert place.is_released() and calls.read_text() != first
 
 
-def test_an_unchanged_checkout_needs_one_search(place: Place) -> None:
+def test_an_unchanged_checkout_needs_a_search_alone(place: Place) -> None:
     """Beside the program a call of the launcher starts `find` alone, and for a page of help nothing."""
     (place.room / "bin").mkdir()
     wanted = ("%s check\n" % place.released, "", 0)

@@ -3,25 +3,29 @@
 from __future__ import annotations
 
 import itertools
-from dataclasses import dataclass
+from dataclasses import dataclass, replace
 from pathlib import Path
-from typing import Any, Dict, Iterable, List, Sequence
+from typing import Any, Dict, Iterable, List, Sequence, Tuple
 
 import pandas as pd
 from ccp_tools.errors import CcpError
+from ccp_tools.losses import Loss
 
 TOP = Path(__file__).resolve().parents[2]
 TRACES = TOP / "examples" / "traces"
 SEGMENT_BYTES = 1448
 TIMEOUT_US = 1_000_000
 ALGORITHMS = ("reno", "cubic")
+# the senders of `ccp` whose order is compared
+PAIRS = (("reno", "cubic"), ("linux-reno", "linux-cubic"))
 
 
 @dataclass(frozen=True)
 class Case:
     """A bulk flow of an algorithm, `reno` or `cubic`, over a link: a trace by its name or its file, a queue in packets,
     a round-trip time without waiting in milliseconds, and the segments that end it. The packets in `losses` are lost
-    beside those of the queue, by their numbers from 0."""
+    beside those of the queue, by their numbers from 0; where they were drawn, `rate` is the chance of each packet and
+    `seed` that of the draw."""
 
     trace: str
     queue: int
@@ -29,10 +33,13 @@ class Case:
     algorithm: str
     segments: int = 30_000
     losses: Sequence[int] = ()
+    rate: float = 0
+    seed: int = 0
 
     @property
     def name(self) -> str:
-        return "%s-%d-%d-%s" % (Path(self.trace).stem, self.queue, self.delay_ms, self.algorithm)
+        drawn = "-%g-s%d" % (self.rate, self.seed) if self.rate else ""
+        return "%s-%d-%d-%s%s" % (Path(self.trace).stem, self.queue, self.delay_ms, self.algorithm, drawn)
 
     @property
     def cell(self) -> Any:
@@ -66,6 +73,24 @@ class Outcome:
     notes: Dict[str, Any] | None = None
 
 
+@dataclass(frozen=True)
+class Group:
+    """Bulk flows, each with its algorithm and its delay in milliseconds, that share a link for some seconds."""
+
+    flows: Tuple[Tuple[str, int], ...]
+    trace: str = "fixed"
+    queue: int = 100
+    seconds: int = 50
+
+    @property
+    def name(self) -> str:
+        return "-".join("%s%d" % flow for flow in self.flows)
+
+    @property
+    def trace_path(self) -> Path:
+        return TRACES / (self.trace + ".trace")
+
+
 def grid(
     traces: Iterable[str],
     queues: Iterable[int],
@@ -81,3 +106,13 @@ def grid(
         if not case.trace_path.is_file():
             raise CcpError("%s: there is no such trace in examples/traces, and no such file" % case.trace)
     return made
+
+
+def by_chance(cases: Iterable[Case], rates: Iterable[float], seeds: Iterable[int]) -> List[Case]:
+    """The cases with each rate and seed of losses by chance. Equal seeds lose equal packets in all of them, and a
+    packet that is sent again counts anew."""
+    found = []
+    for case, rate, seed in itertools.product(cases, rates, seeds):
+        losses = Loss("rate:%g" % rate, (), [rate]).drawn(seed, 2 * case.segments)
+        found.append(replace(case, losses=tuple(losses), rate=rate, seed=seed))
+    return found

@@ -1,16 +1,19 @@
 // A trace-driven link between two TUN devices, in real time: the link that `ccp` models, for the senders of a kernel.
 //
-//     emulator DEVICE-A DEVICE-B TRACE QUEUE DELAY-US SEGMENTS LOG [LOSSES]
+//     emulator DEVICE-A DEVICE-B TRACE QUEUE DELAYS END LOG [LOSSES]
 //
 // A data packet (600 bytes or more) from device A waits in a drop-tail queue of QUEUE packets for a chance of the trace,
 // and then leaves from device B. Half of the delay comes after the chance, the other half on the way back. Packets without
-// data wait for no chance. The trace begins at the first data packet, and anew after its last time. LOSSES is a file of the
-// numbers of data packets, from 0, that are lost however short the queue is.
+// data wait for no chance. The trace begins at the first data packet, and anew after its last time. DELAYS are those of the
+// flows in microseconds, with commas between: the flow with the number n is that of the port 5001 + n. END is a number of
+// segments of one flow, or seconds, as 50s. LOSSES is a file of the numbers of data packets, from 0, that are lost however
+// short the queue is.
 //
-// LOG gets a line for each data packet in the order in which they came: its time in microseconds, its sequence number, and
-// its wait in microseconds, or -1 where it was lost. It prints `ready` when the devices are there, and ends when SEGMENTS
-// different segments have left and would be acknowledged, or by SIGTERM. Then it prints what it did on one line: the time
-// of the first data packet on the monotonic clock, and how late packets left: their mean, 95th percentile and maximum.
+// LOG gets a line for each data packet in the order in which they came: its time in microseconds, its sequence number, its
+// wait in microseconds, or -1 where it was lost, and of several flows the number of its flow. It prints `ready` when the
+// devices are there, and ends when as many different segments have left and would be acknowledged, after the seconds, or
+// by SIGTERM. Then it prints what it did on one line: the time of the first data packet on the monotonic clock, and how
+// late packets left: their mean, 95th percentile and maximum.
 #include <algorithm>
 #include <cerrno>
 #include <csignal>
@@ -25,6 +28,7 @@
 #include <linux/if.h>
 #include <linux/if_tun.h>
 #include <poll.h>
+#include <sstream>
 #include <string>
 #include <sys/ioctl.h>
 #include <sys/prctl.h>
@@ -39,6 +43,7 @@ constexpr int64_t NANOSECONDS = 1'000'000'000;
 constexpr size_t PACKET_BYTES = 2048;
 constexpr ssize_t DATA_BYTES = 600;
 constexpr int READ_AT_ONCE = 64;
+constexpr size_t FIRST_PORT = 5001;
 
 volatile sig_atomic_t is_stopped = 0;
 
@@ -129,9 +134,17 @@ class Link
     std::deque<int64_t> taken_; // chances after now
 };
 
+// When a run ends: with some segments of one flow, or after a time.
+struct End
+{
+    uint64_t segments;
+    int64_t after_ns;
+};
+
 struct Packet
 {
     int64_t due;
+    size_t flow;
     ssize_t length;
     unsigned char bytes[PACKET_BYTES];
 };
@@ -143,6 +156,14 @@ sequence_of(const Packet& packet)
     return uint32_t(tcp[4]) << 24 | uint32_t(tcp[5]) << 16 | uint32_t(tcp[6]) << 8 | tcp[7];
 }
 
+// The flow of a packet from device A (0) or B (1), by the receiver's port.
+size_t
+flow_of(const Packet& packet, int from)
+{
+    const unsigned char* tcp = packet.bytes + 4 * (packet.bytes[0] & 15) + (from == 0 ? 2 : 0);
+    return (size_t(tcp[0]) << 8 | tcp[1]) - FIRST_PORT;
+}
+
 bool
 is_tcp(const Packet& packet)
 {
@@ -152,13 +173,17 @@ is_tcp(const Packet& packet)
 class Emulator
 {
   public:
-    Emulator(Link link, int64_t delay_ns, uint64_t segments, std::vector<int64_t> losses, std::FILE* log)
+    Emulator(Link link, std::vector<int64_t> halves, End end, std::vector<int64_t> losses, std::FILE* log)
         : link_(std::move(link)),
-          half_(delay_ns / 2),
-          segments_(segments),
+          halves_(std::move(halves)),
+          wanted_(end),
           losses_(losses.begin(), losses.end()),
           log_(log)
     {
+        for (std::vector<std::deque<Packet>>& lines : lines_)
+        {
+            lines.resize(halves_.size());
+        }
     }
 
     void run(const int (&devices)[2])
@@ -198,18 +223,31 @@ class Emulator
     {
         for (int from = 0; from < 2; ++from)
         {
-            std::deque<Packet>& line = lines_[from];
-            while (!line.empty() && line.front().due <= now_ns())
+            for (std::deque<Packet>* line = first_due(from); line && line->front().due <= now_ns(); line = first_due(from))
             {
-                const Packet& packet = line.front();
+                const Packet& packet = line->front();
                 if (write(devices[1 - from], packet.bytes, packet.length) < 0 && errno != EAGAIN)
                 {
                     fail("a packet");
                 }
                 late_.push_back(now_ns() - packet.due);
-                line.pop_front();
+                line->pop_front();
             }
         }
+    }
+
+    // The line of a device, of a flow each, whose first packet leaves first; none where no packet waits.
+    std::deque<Packet>* first_due(int from)
+    {
+        std::deque<Packet>* found = nullptr;
+        for (std::deque<Packet>& line : lines_[from])
+        {
+            if (!line.empty() && (!found || line.front().due < found->front().due))
+            {
+                found = &line;
+            }
+        }
+        return found;
     }
 
     bool read_some(const int (&devices)[2])
@@ -226,7 +264,8 @@ class Emulator
                     break;
                 }
                 is_any = true;
-                if (is_tcp(packet))
+                packet.flow = is_tcp(packet) ? flow_of(packet, from) : halves_.size();
+                if (packet.flow < halves_.size())
                 {
                     take(packet, from);
                 }
@@ -238,7 +277,7 @@ class Emulator
     void take(Packet& packet, int from)
     {
         const int64_t now = now_ns();
-        packet.due = now + half_;
+        packet.due = now + halves_[packet.flow];
         if (from == 0 && packet.length >= DATA_BYTES)
         {
             const int64_t chance = chance_of(packet, now);
@@ -246,9 +285,9 @@ class Emulator
             {
                 return;
             }
-            packet.due = begin_ + chance + half_;
+            packet.due = begin_ + chance + halves_[packet.flow];
         }
-        lines_[from].push_back(packet);
+        lines_[from][packet.flow].push_back(packet);
     }
 
     // The chance of a data packet, or -1 where it is lost; it is written to the log.
@@ -257,15 +296,17 @@ class Emulator
         if (!begin_)
         {
             begin_ = now;
+            end_ = wanted_.after_ns ? now + wanted_.after_ns : 0;
         }
         const int64_t at = now - begin_;
         const int64_t chance = losses_.count(count_++) ? -1 : link_.enter(at);
         const uint32_t sequence = sequence_of(packet);
         const long long wait = chance < 0 ? -1 : (chance - at) / 1000;
-        std::fprintf(log_, "%lld %u %lld\n", static_cast<long long>(at / 1000), sequence, wait);
-        if (chance >= 0 && seen_.insert(sequence).second && seen_.size() == segments_)
+        std::fprintf(log_, "%lld %u %lld", static_cast<long long>(at / 1000), sequence, wait);
+        std::fprintf(log_, halves_.size() > 1 ? " %zu\n" : "\n", packet.flow);
+        if (chance >= 0 && wanted_.segments && seen_.insert(sequence).second && seen_.size() == wanted_.segments)
         {
-            end_ = begin_ + chance + 2 * half_;
+            end_ = begin_ + chance + 2 * halves_[packet.flow];
         }
         return chance;
     }
@@ -273,11 +314,14 @@ class Emulator
     void wait(const int (&devices)[2]) const
     {
         int64_t left = NANOSECONDS / 10;
-        for (const std::deque<Packet>& line : lines_)
+        for (const std::vector<std::deque<Packet>>& lines : lines_)
         {
-            if (!line.empty())
+            for (const std::deque<Packet>& line : lines)
             {
-                left = std::min(left, line.front().due - now_ns());
+                if (!line.empty())
+                {
+                    left = std::min(left, line.front().due - now_ns());
+                }
             }
         }
         timespec time{0, std::max<int64_t>(0, left)};
@@ -286,15 +330,35 @@ class Emulator
     }
 
     Link link_;
-    int64_t half_;
-    uint64_t segments_;
+    std::vector<int64_t> halves_; // of the flows' delays, in nanoseconds
+    End wanted_;
     std::unordered_set<int64_t> losses_;
     std::FILE* log_;
-    std::deque<Packet> lines_[2]; // packets from each device, by the time at which they leave
+    std::vector<std::deque<Packet>> lines_[2]; // packets from each device and of each flow, by the time at which they leave
     std::unordered_set<uint32_t> seen_;
     std::vector<int64_t> late_;
     int64_t begin_ = 0, end_ = 0, count_ = 0;
 };
+
+// Halves of the delays in a list of microseconds, in nanoseconds.
+std::vector<int64_t>
+halves_in(const std::string& list)
+{
+    std::vector<int64_t> found;
+    std::stringstream words(list);
+    for (std::string word; std::getline(words, word, ',');)
+    {
+        found.push_back(500 * std::atoll(word.c_str()));
+    }
+    return found;
+}
+
+End
+end_in(const std::string& word)
+{
+    const uint64_t number = std::strtoull(word.c_str(), nullptr, 10);
+    return word.back() == 's' ? End{0, static_cast<int64_t>(number) * NANOSECONDS} : End{number, 0};
+}
 
 void
 stop(int)
@@ -309,7 +373,7 @@ main(int argc, char** argv)
 {
     if (argc != 8 && argc != 9)
     {
-        std::fprintf(stderr, "emulator: DEVICE-A DEVICE-B TRACE QUEUE DELAY-US SEGMENTS LOG [LOSSES] are expected\n");
+        std::fprintf(stderr, "emulator: DEVICE-A DEVICE-B TRACE QUEUE DELAYS END LOG [LOSSES] are expected\n");
         return 2;
     }
     const int devices[2] = {open_device(argv[1]), open_device(argv[2])};
@@ -318,7 +382,7 @@ main(int argc, char** argv)
     {
         fail(argv[7]);
     }
-    Emulator emulator(Link(numbers_in(argv[3]), std::strtoull(argv[4], nullptr, 10)), 1000 * std::atoll(argv[5]), std::strtoull(argv[6], nullptr, 10),
+    Emulator emulator(Link(numbers_in(argv[3]), std::strtoull(argv[4], nullptr, 10)), halves_in(argv[5]), end_in(argv[6]),
                       argc == 9 ? numbers_in(argv[8]) : std::vector<int64_t>(), log);
     std::signal(SIGTERM, stop);
     std::signal(SIGINT, stop);

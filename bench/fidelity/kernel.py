@@ -1,9 +1,10 @@
 """The cases by the TCP of this machine's kernel: two network namespaces, with an emulated link between them.
 
-It needs Linux, root, `ip` (iproute2), /dev/net/tun and a C++ compiler. An emulator in real time is as good as the
-machine is idle: each run keeps how late packets left, and a run that was late is made again. On `train`, where the
-kernel takes back the cut of its timer after a gap, Reno had 16.0 Mbit/s in runs that were 0.1 ms late in the mean,
-14.6 in one of 3 ms, and 10.9 in one of 12 ms (a queue of 100 packets, 20 ms)."""
+It needs Linux, root, `ip` (iproute2), /dev/net/tun and a C++ compiler. The processes of a run have a real-time
+priority, since an emulator in real time is only as good as it is on time: on a machine with other processes on all
+processors packets left 0.02 ms late in the mean with it. Each run keeps how late they left, and a run that was late is
+made again. On `train`, where the kernel takes back the cut of its timer after a gap, Reno had 16.0 Mbit/s in runs that
+were 0.1 ms late in the mean, 14.6 in one of 3 ms, and 10.9 in one of 12 ms (a queue of 100 packets, 20 ms)."""
 
 from __future__ import annotations
 
@@ -13,14 +14,15 @@ import platform
 import shutil
 import subprocess
 import sys
-from contextlib import ExitStack, contextmanager
+import time
+from contextlib import ExitStack, contextmanager, suppress
 from pathlib import Path
-from typing import Any, Dict, Iterator, List
+from typing import Any, Dict, Iterator, List, Sequence, Tuple
 
 from ccp_tools.errors import CcpError
 
 from .build import compiled
-from .cases import SEGMENT_BYTES, Case, Outcome
+from .cases import SEGMENT_BYTES, Case, Group, Outcome
 from .logs import acknowledgements, kept, read_log, read_windows, write_losses
 
 HERE = Path(__file__).resolve().parent
@@ -36,10 +38,12 @@ SETTINGS = {
 QUEUE_OF_DEVICE = 10_000
 MTU = SEGMENT_BYTES + 52
 # how much longer than its segments at one a millisecond a run may take
-PATIENCE = 8
+PATIENCE = 24
 # a run whose packets left later than this in the mean is made again, so often at most
 LATEST_US = 300
 TRIES = 3
+# how long after it is started a flow begins, by which all are connected
+BEGIN_NS = 500_000_000
 # of the runs of this process, for names that no two have
 NUMBERS = itertools.count()
 
@@ -136,28 +140,63 @@ def punctual(case: Case, folder: Path, log: Path, windows: Path) -> str:
 
 def printed(case: Case, folder: Path, log: Path, windows: Path) -> str:
     """Runs a case, and gives what the emulator prints at the end."""
-    number, longest = next(NUMBERS), PATIENCE * case.segments / 1000
-    devices = ["fid%d%s%d" % (os.getpid(), side, number) for side in "ab"]
-    words = [str(build(folder)), *devices, str(case.trace_path), str(case.queue)]
-    words += [str(1000 * case.delay_ms), str(case.segments), str(log)]
+    words = [str(case.trace_path), str(case.queue), str(1000 * case.delay_ms), str(case.segments), str(log)]
     if case.losses:
         words.append(str(write_losses(case, log)))
+    return emulated(words, folder, [(case.algorithm, windows)], PATIENCE * case.segments / 1000, case.name)
+
+
+def run_group(group: Group, log: Path) -> float:
+    """Runs flows that share a link, and gives how late packets left in the mean, in microseconds. A late run is made
+    again, and one whose log is there isn't."""
+    delays = ",".join(str(1000 * delay_ms) for _, delay_ms in group.flows)
+    words = [str(group.trace_path), str(group.queue), delays, "%ds" % group.seconds, str(log)]
+    streams = [(algorithm, Path(os.devnull)) for algorithm, _ in group.flows]
+
+    def tried() -> str:
+        for _ in range(TRIES):
+            said = emulated(words, log.parent, streams, 3 * group.seconds, group.name)
+            if summary(said, group)["late_mean_us"] <= LATEST_US:
+                break
+        return said
+
+    return summary(kept(log.with_suffix(".summary"), group, tried), group)["late_mean_us"]
+
+
+def run_ahead() -> None:
+    """Has what this thread starts run ahead of all other processes, so that a busy machine doesn't make it late."""
+    with suppress(OSError):
+        os.sched_setscheduler(0, os.SCHED_FIFO, os.sched_param(1))
+
+
+def emulated(words: List[str], folder: Path, streams: Sequence[Tuple[str, Path]], longest: float, name: str) -> str:
+    """Runs flows over the emulator, whose words after the devices are given: each with its sender of the kernel and the
+    file that gets its windows. Gives what the emulator prints at the end."""
+    number = next(NUMBERS)
+    devices = ["fid%d%s%d" % (os.getpid(), side, number) for side in "ab"]
+    run_ahead()
     stream = [sys.executable, str(HERE / "stream.py")]
-    with namespaces("%d-%d" % (os.getpid(), number)) as names, process(words) as emulator:
+    with ExitStack() as stack:
+        names = stack.enter_context(namespaces("%d-%d" % (os.getpid(), number)))
+        emulator = stack.enter_context(process([str(build(folder)), *devices, *words]))
         awaited(emulator, "the emulator")
-        for name, device, own, peer in zip(names, devices, ADDRESSES, reversed(ADDRESSES)):
-            configure(name, device, own, peer)
-        inside = [["ip", "netns", "exec", name] for name in names]
-        with process([*inside[1], *stream, "receive", ADDRESSES[1], str(PORT)]) as receiver:
-            awaited(receiver, "the receiver")
-            with process([*inside[0], *stream, "send", ADDRESSES[1], str(PORT), case.algorithm, str(windows)]):
-                try:
-                    return emulator.communicate(timeout=longest)[0]
-                except subprocess.TimeoutExpired:
-                    raise CcpError("case %s isn't done after %g s" % (case.name, longest)) from None
+        for space, device, own, peer in zip(names, devices, ADDRESSES, reversed(ADDRESSES)):
+            configure(space, device, own, peer)
+        inside = [["ip", "netns", "exec", space] for space in names]
+        ports = [str(PORT + flow) for flow in range(len(streams))]
+        for port in ports:
+            awaited(stack.enter_context(process([*inside[1], *stream, "receive", ADDRESSES[1], port])), "the receiver")
+        begin = str(time.monotonic_ns() + BEGIN_NS * len(streams))
+        for port, (sender, windows) in zip(ports, streams):
+            stack.enter_context(process([*inside[0], *stream, "send", ADDRESSES[1], port, sender, str(windows), begin]))
+        try:
+            said = emulator.communicate(timeout=longest)[0]
+        except subprocess.TimeoutExpired:
+            raise CcpError("case %s isn't done after %g s" % (name, longest)) from None
+    return said
 
 
-def summary(text: str, case: Case) -> Dict[str, float]:
+def summary(text: str, case: Case | Group) -> Dict[str, float]:
     """What the emulator says when it ends."""
     try:
         found = {name: float(value) for name, value in (word.split("=") for word in text.split())}

@@ -7,6 +7,8 @@ from typing import Any, Iterator, List
 
 import pandas as pd
 
+from . import spread
+from .cases import PAIRS
 from .results import cells_of, medians
 
 # Reno on the fixed link: the most distance in per cent
@@ -19,8 +21,7 @@ RENO_FIGURES = {
 # losses of CUBIC: the greatest factor, on these traces with these queues
 CUBIC_FACTOR = 1.5
 CUBIC_TRACES, CUBIC_QUEUES = ("fixed", "wave"), (100, 250)
-# the senders whose order is compared, and those of the stacks that they are compared with
-PAIRS = (("reno", "cubic"), ("linux-reno", "linux-cubic"))
+ORDER = "which of Reno and CUBIC waits longer"
 
 
 @dataclass(frozen=True)
@@ -56,12 +57,14 @@ class Figures:
         return (stack, sender, *cell, "cubic" if "cubic" in sender else "reno")
 
 
-def findings(frame: pd.DataFrame, reference: str) -> List[Finding]:
-    """What each limit finds in each cell that has its figures."""
+def findings(frame: pd.DataFrame, reference: str, changes: pd.DataFrame | None = None) -> List[Finding]:
+    """What each limit finds in each cell that has its figures; `changes` are those over small changes."""
     figures, made = Figures(frame), []
     for cell in cells_of(frame):
         made += [*reno_on_fixed(figures, cell, reference), *cubic_losses(figures, cell, reference)]
         made += list(orders(figures, cell, reference))
+        if changes is not None:
+            made += list(orders_of_means(figures, cell, reference, changes))
     return made
 
 
@@ -100,4 +103,18 @@ def orders(figures: Figures, cell: Any, reference: str) -> Iterator[Finding]:
             ours = [figures.of("ccp", sender, cell, name) for sender in pair]
             holds = (ours[0] < ours[1]) == (theirs[0] < theirs[1])
             value = "%.1f, %.1f beside %.1f, %.1f" % (*ours, *theirs)
-            yield Finding("which of Reno and CUBIC waits longer", cell, " and ".join(pair), value, holds)
+            yield Finding(ORDER, cell, " and ".join(pair), value, holds)
+
+
+def orders_of_means(figures: Figures, cell: Any, reference: str, changes: pd.DataFrame) -> Iterator[Finding]:
+    """The same of the means over small changes of the cell."""
+    if not all(figures.has(reference, sender, cell) for sender in PAIRS[0]):
+        return
+    theirs = [figures.of(reference, sender, cell, "queueing_mean_ms") for sender in PAIRS[0]]
+    for pair in PAIRS:
+        rows = [spread.row_of(changes, "ccp", sender, cell) for sender in pair]
+        if all(row is not None for row in rows):
+            ours = [row["queueing_mean_ms_mean"] for row in rows]
+            holds = (ours[0] < ours[1]) == (theirs[0] < theirs[1])
+            value = "%.1f, %.1f beside %.1f, %.1f" % (*ours, *theirs)
+            yield Finding(ORDER + ", means over small changes", cell, " and ".join(pair), value, holds)

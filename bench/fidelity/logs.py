@@ -7,16 +7,16 @@ sequence number, and its wait for a chance in microseconds, or -1 where it was l
 from __future__ import annotations
 
 from pathlib import Path
-from typing import Callable
+from typing import Callable, Sequence
 
 import numpy as np
 import pandas as pd
 from ccp_tools.errors import CcpError
 
-from .cases import SEGMENT_BYTES, Case
+from .cases import SEGMENT_BYTES, Case, Group
 
 
-def kept(path: Path, case: Case, work: Callable[[], str]) -> str:
+def kept(path: Path, case: Case | Group, work: Callable[[], str]) -> str:
     """What a run of a case printed. `work` runs it where the file at `path` doesn't have a run of this very case, and
     then the file gets it."""
     head = "%r\n" % (case,)
@@ -32,10 +32,10 @@ def write_losses(case: Case, log: Path) -> Path:
     return path
 
 
-def read_log(path: Path) -> pd.DataFrame:
-    """The log in a file: columns `time_us`, `sequence`, `wait_us`, whole numbers."""
+def read_log(path: Path, others: Sequence[str] = ()) -> pd.DataFrame:
+    """The log in a file: columns `time_us`, `sequence`, `wait_us` and the others, whole numbers."""
     try:
-        return pd.read_csv(path, sep=" ", names=["time_us", "sequence", "wait_us"], dtype=np.int64)
+        return pd.read_csv(path, sep=" ", names=["time_us", "sequence", "wait_us", *others], dtype=np.int64)
     except (OSError, ValueError) as error:
         raise CcpError("%s: no log of a link: %s" % (path, error)) from None
 

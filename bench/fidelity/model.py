@@ -24,10 +24,9 @@ def identity(path: str | Path | None = None) -> str:
 
 
 def scenario_of(cases: Sequence[Case]) -> Dict[str, Any]:
-    """The scenario of the cases, one after another with each sender of their algorithm. The cases are of one length,
-    and of equal losses."""
+    """The scenario of the cases, one after another with each sender of their algorithm. The cases are of one length."""
     made: Dict[str, Any] = {}
-    for case in cases:
+    for number, case in enumerate(cases):
         words = ["--senders", ",".join(SENDERS[case.algorithm]), "--queue", str(case.queue)]
         words += ["--delay-ms", str(case.delay_ms), "--acks", str(case.segments), "--mss", str(SEGMENT_BYTES)]
         words += ["--timeout-ms", str(TIMEOUT_US // 1000)]
@@ -35,7 +34,8 @@ def scenario_of(cases: Sequence[Case]) -> Dict[str, Any]:
             words += ["--losses", "+".join(map(str, case.losses))]
         one = scenario.make([*words, "--", str(case.trace_path)])
         for member in one["cases"]:
-            member["name"] = "%s-%s" % (case.name, member["sender"])
+            # the name of a case may be longer than a scenario takes
+            member["name"] = "%d-%s" % (number, member["sender"])
         for name, value in one.items():
             if isinstance(value, dict):
                 made.setdefault(name, {}).update(value)

@@ -1,14 +1,15 @@
-// One bulk TCP flow of ns-3 over the link that `ccp` models: a chance of a trace serves one packet of any size, a drop-tail
+// Bulk TCP flows of ns-3 over the link that `ccp` models: a chance of a trace serves one packet of any size, a drop-tail
 // queue holds packets, and a fixed delay is around it.
 //
-//     ns3 --trace=FILE --queue=PACKETS --delay=MICROSECONDS --sender=reno|cubic --segments=N --log=FILE --windows=FILE
-//         [--hystart=0|1] [--minrto=SECONDS] [--losses=FILE]
+//     ns3 --trace=FILE --queue=PACKETS --flows=SENDER:MICROSECONDS[,SENDER:MICROSECONDS].. --segments=N|--seconds=S
+//         --log=FILE [--windows=FILE] [--hystart=0|1] [--minrto=SECONDS] [--losses=FILE]
 //
-// The trace begins when the first data packet is sent; packets without data use no chance. The log gets a line for each
-// data packet: its time in microseconds, its sequence number, and its wait in microseconds, or -1 where it was lost. The
-// file of windows gets a line for each change: its time in microseconds, and the window in bytes. --losses names a file of
-// the numbers of data packets, from 0, that are lost however short the queue is. It prints how often the retransmission
-// timer fired.
+// A flow is reno or cubic, and its delay. A run ends with the segments of one flow, or after some seconds. The trace begins
+// when the first data packet is sent; packets without data use no chance. The log gets a line for each data packet: its
+// time in microseconds, its sequence number, its wait in microseconds, or -1 where it was lost, and of several flows the
+// number of its flow. The file of windows gets a line for each change of the first flow's: its time in microseconds, and
+// the window in bytes. --losses names a file of the numbers of data packets, from 0, that are lost however short the queue
+// is. It prints how often retransmission timers fired.
 #include "ns3/applications-module.h"
 #include "ns3/core-module.h"
 #include "ns3/internet-module.h"
@@ -16,6 +17,7 @@
 #include <cstdio>
 #include <deque>
 #include <fstream>
+#include <sstream>
 #include <unordered_set>
 #include <vector>
 
@@ -85,11 +87,18 @@ class Link
     std::deque<int64_t> m_taken; // chances after now
 };
 
+struct Flow
+{
+    std::string sender;
+    int64_t half; // of the delay, in nanoseconds
+};
+
 struct Run
 {
     Link link;
-    int64_t half = 0; // of the delay, in nanoseconds
+    std::vector<Flow> flows;
     uint64_t segments = 0;
+    double seconds = 0;
     std::unordered_set<int64_t> losses;
     std::unordered_set<uint32_t> seen;
     std::FILE* log = nullptr;
@@ -102,22 +111,28 @@ struct Run
         return Simulator::Now().GetNanoSeconds() - std::max<int64_t>(0, begin);
     }
 
-    // How long after now a data packet is at the other end, or -1 where it is lost.
-    int64_t Carry(uint32_t sequence)
+    // How long after now a data packet of a flow is at the other end, or -1 where it is lost.
+    int64_t Carry(uint32_t flow, uint32_t sequence)
     {
         if (begin < 0)
         {
             begin = Simulator::Now().GetNanoSeconds();
+            if (seconds > 0)
+            {
+                Simulator::Stop(Seconds(seconds));
+            }
         }
         const int64_t now = Now();
         const int64_t chance = losses.count(sent++) ? -1 : link.Enter(now);
         const long long wait = chance < 0 ? -1 : (chance - now) / 1000;
-        std::fprintf(log, "%lld %u %lld\n", static_cast<long long>(now / 1000), sequence, wait);
+        std::fprintf(log, "%lld %u %lld", static_cast<long long>(now / 1000), sequence, wait);
+        std::fprintf(log, flows.size() > 1 ? " %u\n" : "\n", flow);
         if (chance < 0)
         {
             return -1;
         }
-        if (seen.insert(sequence).second && seen.size() == segments)
+        const int64_t half = flows[flow].half;
+        if (segments > 0 && seen.insert(sequence).second && seen.size() == segments)
         {
             Simulator::Stop(NanoSeconds(chance + 2 * half - now));
         }
@@ -147,10 +162,11 @@ class TraceDevice : public SimpleNetDevice
         TcpHeader tcp;
         copy->RemoveHeader(ip);
         copy->RemoveHeader(tcp);
-        int64_t after = g_run.half;
+        const uint32_t flow = (forward ? tcp.GetDestinationPort() : tcp.GetSourcePort()) - PORT;
+        int64_t after = g_run.flows[flow].half;
         if (forward && copy->GetSize() > 0)
         {
-            after = g_run.Carry(tcp.GetSequenceNumber().GetValue());
+            after = g_run.Carry(flow, tcp.GetSequenceNumber().GetValue());
         }
         if (after >= 0)
         {
@@ -190,6 +206,48 @@ void
 OnConnection(Ptr<Socket> socket)
 {
     Fill(socket, 0);
+}
+
+// The flows of a list SENDER:MICROSECONDS,..
+std::vector<Flow>
+FlowsIn(const std::string& list)
+{
+    std::vector<Flow> found;
+    std::stringstream words(list);
+    for (std::string word; std::getline(words, word, ',');)
+    {
+        const size_t colon = word.find(':');
+        NS_ABORT_MSG_IF(colon == std::string::npos, "ns3: --flows: SENDER:MICROSECONDS is expected");
+        found.push_back({word.substr(0, colon), 500 * std::stoll(word.substr(colon + 1))});
+        NS_ABORT_MSG_UNLESS(found.back().sender == "reno" || found.back().sender == "cubic", "ns3: a sender is reno or cubic");
+    }
+    NS_ABORT_MSG_IF(found.empty(), "ns3: --flows has no flow");
+    return found;
+}
+
+// Starts a flow so that all send their first data at one time: a handshake takes a delay.
+void
+StartFlow(const NodeContainer& nodes, Ipv4Address target, uint32_t flow, int64_t longest)
+{
+    const Flow& one = g_run.flows[flow];
+    const TypeId type = TypeId::LookupByName(one.sender == "reno" ? "ns3::TcpLinuxReno" : "ns3::TcpCubic");
+    for (int at = 0; at < 2; ++at)
+    {
+        nodes.Get(at)->GetObject<TcpL4Protocol>()->SetAttribute("SocketType", TypeIdValue(type));
+    }
+    PacketSinkHelper("ns3::TcpSocketFactory", InetSocketAddress(Ipv4Address::GetAny(), PORT + flow)).Install(nodes.Get(1));
+    Ptr<Socket> socket = Socket::CreateSocket(nodes.Get(0), TcpSocketFactory::GetTypeId());
+    socket->Bind();
+    socket->SetConnectCallback(MakeCallback(&OnConnection), MakeNullCallback<void, Ptr<Socket>>());
+    socket->SetSendCallback(MakeCallback(&Fill));
+    if (flow == 0 && g_run.windows)
+    {
+        socket->TraceConnectWithoutContext("CongestionWindow", MakeCallback(&OnWindow));
+    }
+    socket->TraceConnectWithoutContext("CongState", MakeCallback(&OnState));
+    Simulator::Schedule(NanoSeconds(2 * (longest - one.half)), [socket, target, flow]() {
+        socket->Connect(InetSocketAddress(target, PORT + flow));
+    });
 }
 
 void
@@ -233,27 +291,25 @@ MakeLink(const NodeContainer& nodes)
 int
 main(int argc, char** argv)
 {
-    std::string trace, sender = "reno", log, windows, losses;
-    int64_t delay = 20000;
+    std::string trace, flows = "reno:20000", log, windows, losses;
     bool hystart = true;
     double least_timeout = 1;
     CommandLine words;
     words.AddValue("trace", "file of times in milliseconds", trace);
     words.AddValue("queue", "packets that may wait", g_run.link.queue);
-    words.AddValue("delay", "round-trip time without waiting in microseconds", delay);
-    words.AddValue("sender", "reno, or cubic", sender);
-    words.AddValue("segments", "different segments that end the run", g_run.segments);
+    words.AddValue("flows", "reno or cubic, and the round-trip time without waiting in microseconds", flows);
+    words.AddValue("segments", "different segments that end the run of one flow", g_run.segments);
+    words.AddValue("seconds", "after which a run ends", g_run.seconds);
     words.AddValue("log", "file that gets a line a data packet", log);
-    words.AddValue("windows", "file that gets a line a change of the window", windows);
+    words.AddValue("windows", "file that gets a line a change of the first flow's window", windows);
     words.AddValue("hystart", "whether CUBIC has HyStart", hystart);
     words.AddValue("minrto", "least retransmission timeout in seconds", least_timeout);
     words.AddValue("losses", "file of numbers of packets that are lost", losses);
     words.Parse(argc, argv);
-    NS_ABORT_MSG_UNLESS(sender == "reno" || sender == "cubic", "ns3: --sender is reno or cubic");
+    g_run.flows = FlowsIn(flows);
     g_run.link.times = NumbersIn(trace);
-    g_run.half = delay * 500;
     g_run.log = Opened(log);
-    g_run.windows = Opened(windows);
+    g_run.windows = windows.empty() ? nullptr : Opened(windows);
     if (!losses.empty())
     {
         const std::vector<int64_t> listed = NumbersIn(losses);
@@ -266,23 +322,22 @@ main(int argc, char** argv)
     InternetStackHelper().Install(nodes);
     Ipv4AddressHelper addresses("10.1.0.0", "255.255.255.0");
     const Ipv4Address target = addresses.Assign(MakeLink(nodes)).GetAddress(1);
-    const TypeId type = TypeId::LookupByName(sender == "reno" ? "ns3::TcpLinuxReno" : "ns3::TcpCubic");
-    for (int at = 0; at < 2; ++at)
+    int64_t longest = 0;
+    for (const Flow& one : g_run.flows)
     {
-        nodes.Get(at)->GetObject<TcpL4Protocol>()->SetAttribute("SocketType", TypeIdValue(type));
+        longest = std::max(longest, one.half);
     }
-    PacketSinkHelper("ns3::TcpSocketFactory", InetSocketAddress(Ipv4Address::GetAny(), PORT)).Install(nodes.Get(1));
-    Ptr<Socket> socket = Socket::CreateSocket(nodes.Get(0), TcpSocketFactory::GetTypeId());
-    socket->Bind();
-    socket->SetConnectCallback(MakeCallback(&OnConnection), MakeNullCallback<void, Ptr<Socket>>());
-    socket->SetSendCallback(MakeCallback(&Fill));
-    socket->TraceConnectWithoutContext("CongestionWindow", MakeCallback(&OnWindow));
-    socket->TraceConnectWithoutContext("CongState", MakeCallback(&OnState));
-    socket->Connect(InetSocketAddress(target, PORT));
+    for (uint32_t flow = 0; flow < g_run.flows.size(); ++flow)
+    {
+        StartFlow(nodes, target, flow, longest);
+    }
     Simulator::Run();
     Simulator::Destroy();
     std::fclose(g_run.log);
-    std::fclose(g_run.windows);
+    if (g_run.windows)
+    {
+        std::fclose(g_run.windows);
+    }
     std::printf("timeouts=%llu\n", static_cast<unsigned long long>(g_run.timeouts));
     return g_run.seen.size() >= g_run.segments ? 0 : 1;
 }

@@ -4,6 +4,7 @@ from __future__ import annotations
 
 import subprocess
 from pathlib import Path
+from typing import List
 
 from ccp_tools.errors import CcpError
 
@@ -49,12 +50,17 @@ def run(case: Case, folder: Path, has_hystart: bool = True) -> Outcome:
 
 def printed(case: Case, folder: Path, has_hystart: bool, log: Path, windows: Path) -> str:
     """Runs a case, and gives what its program prints."""
-    words = [str(program(folder)), "--trace=%s" % case.trace_path, "--queue=%d" % case.queue]
-    words += ["--delay=%d" % (1000 * case.delay_ms), "--sender=" + case.algorithm, "--segments=%d" % case.segments]
+    words = ["--trace=%s" % case.trace_path, "--queue=%d" % case.queue, "--segments=%d" % case.segments]
+    words += ["--flows=%s:%d" % (case.algorithm, 1000 * case.delay_ms)]
     words += ["--log=%s" % log, "--windows=%s" % windows, "--hystart=%d" % has_hystart]
     if case.losses:
         words.append("--losses=%s" % write_losses(case, log))
-    ran = subprocess.run(words, stdout=subprocess.PIPE, stderr=subprocess.PIPE, text=True)
+    return said(words, folder, case.name)
+
+
+def said(words: List[str], folder: Path, name: str) -> str:
+    """What the program prints of a run by these words."""
+    ran = subprocess.run([str(program(folder)), *words], stdout=subprocess.PIPE, stderr=subprocess.PIPE, text=True)
     if ran.returncode:
-        raise CcpError("case %s: ns-3 fails: %s" % (case.name, ran.stderr.strip()[-400:]))
+        raise CcpError("case %s: ns-3 fails: %s" % (name, ran.stderr.strip()[-400:]))
     return ran.stdout

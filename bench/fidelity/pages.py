@@ -8,12 +8,14 @@ from typing import Any, Dict, Iterable, List, Mapping, Sequence, Tuple
 import numpy as np
 import pandas as pd
 from ccp_tools import plots
+from ccp_tools.plots import pages as layout
 from ccp_tools.errors import CcpError
 from ccp_tools.files import read_text
 from matplotlib.figure import Figure
 
+from . import spread
 from .cases import ALGORITHMS, Outcome
-from .limits import Figures, Finding
+from .limits import ORDER, Figures, Finding
 from .results import cells_of
 
 # the columns of a row, each a stack and, by the algorithm, its sender; those without figures have a -
@@ -59,14 +61,33 @@ def grid(frame: pd.DataFrame, queues: Sequence[int] | None = None) -> str:
     return table(["trace", "queue", "ms", "sender", *HEADS], rows)
 
 
-def orders(found: Iterable[Finding]) -> str:
-    """The mean waits by which senders are ranked, a row a cell and pair."""
-    rows = [
-        [*map(str, one.cell), one.sender, one.value, "yes" if one.holds else "no"]
-        for one in found
-        if "waits" in one.limit
-    ]
-    return table(["trace", "queue", "ms", "senders", "wait: Reno, CUBIC", "same order"], rows)
+def orders(found: Iterable[Finding], changes: pd.DataFrame | None = None) -> str:
+    """The mean waits by which senders are ranked, a row a cell and pair; then, where they are there, those over small
+    changes of the cell, with their standard deviations, and in how many changes CUBIC waits longer."""
+    heads = ["trace", "queue", "ms", "senders", "wait: Reno, CUBIC", "same order"]
+    rows = []
+    for one in found:
+        if one.limit == ORDER:
+            made = [*map(str, one.cell), one.sender, one.value, "yes" if one.holds else "no"]
+            rows.append([*made, *order_over(changes, one)] if changes is not None else made)
+    return table(heads + ([] if changes is None else ["over small changes", "CUBIC longer in"]), rows)
+
+
+def order_over(changes: pd.DataFrame, one: Finding) -> List[str]:
+    """The two last cells of a row of orders."""
+    pair = one.sender.split(" and ")
+    row = spread.row_of(changes, "ccp", pair[1], one.cell)
+    count = "-" if row is None else "%d of %d" % (row["longer"], row["runs"])
+    return [spread.wait_text(changes, "ccp", pair, one.cell), count]
+
+
+def changes_table(changes: pd.DataFrame) -> str:
+    """The means over small changes of each cell, with their standard deviations."""
+    rows = []
+    for row in changes.to_dict("records"):
+        values = [(form + " ±" + form) % (row[name + "_mean"], row[name + "_sd"]) for name, form in SHOWN]
+        rows.append([*(str(row[name]) for name in ("trace", "queue", "delay_ms", "stack", "sender")), *values])
+    return table(["trace", "queue", "ms", "stack", "sender", *HEADS], rows)
 
 
 def limits(found: Sequence[Finding]) -> str:
@@ -101,9 +122,9 @@ def first(pair: Tuple[str, str]) -> str:
     return pair[0]
 
 
-def sections(frame: pd.DataFrame, found: Sequence[Finding]) -> Dict[str, str]:
+def sections(frame: pd.DataFrame, found: Sequence[Finding], changes: pd.DataFrame | None = None) -> Dict[str, str]:
     """The parts of pages that are made of the figures, by their names."""
-    made = {"grid": grid(frame, [100]), "limits": limits(found), "orders": orders(found)}
+    made = {"grid": grid(frame, [100]), "limits": limits(found), "orders": orders(found, changes)}
     return {**made, "before and after": before_and_after(frame)}
 
 
@@ -131,19 +152,15 @@ def write_page(path: Path, made: Mapping[str, str]) -> None:
 
 def windows(outcomes: Sequence[Outcome], until_s: float | None = None) -> Figure:
     """The congestion windows of the runs of one case over time."""
-    labels = [label_of(one) for one in outcomes]
-    keys = {label: plots.line_key(at) for at, label in enumerate(labels)}
+    keys = layout.line_keys([label_of(one) for one in outcomes])
     for key in keys.values():
         key.set_marker("")
-    sheet = plots.Sheet(LOOK, keys, [14.0])
-    figure = sheet.figure()
-    panel = sheet.axes[0]
+    figure, (panel,) = layout.page(LOOK, keys, [14.0])
     end = until_s or min(float(one.acks["now"].iloc[-1]) / 1e6 for one in outcomes)
     times = np.linspace(0, end, POINTS)
     for at, one in enumerate(outcomes):
-        panel.plot(times, sampled(one.windows, times), **plots.line_look(at))
-    plots.stack(sheet, "time [s]")
-    panel.set(ylabel="window [segments]", xlim=(0, end))
+        panel.plot(times, sampled(one.windows, times), **{**layout.line_look(at), "marker": ""})
+    panel.set(xlabel="time [s]", ylabel="window [segments]", xlim=(0, end))
     panel.set_ylim(bottom=0)
     return figure
 

@@ -2,12 +2,13 @@
 
 Columns are `stack` (ccp, ns-3, linux), `version`, `sender`, the case (`trace`, `queue` in packets, `delay_ms`,
 `algorithm`, `segments`), `run` from 1, the figures FIGURES of docs/metrics.md, `lost_after_5s` in packets, and
-of Linux how late packets left the emulator in microseconds, in the mean and as a 95th percentile."""
+of Linux how late packets left the emulator in microseconds, in the mean and as a 95th percentile. Runs with losses by
+chance have `rate`, the chance of each packet, and `seed` too."""
 
 from __future__ import annotations
 
 from pathlib import Path
-from typing import Any, Dict, Iterable, List
+from typing import Any, Dict, Iterable, List, Sequence
 
 import pandas as pd
 from ccp_tools import metrics
@@ -21,6 +22,7 @@ KEY = ["stack", "sender", *OF_CASE]
 FIGURES = ["end_s", "throughput_mbps", "lost", "queueing_mean_ms", "queueing_p95_ms"]
 LATE = ["late_mean_us", "late_p95_us"]
 COLUMNS = ["stack", "version", "sender", *OF_CASE, "segments", "run", *FIGURES, "lost_after_5s", *LATE]
+OF_CHANCE = ["rate", "seed"]
 SLOW_START_US = 5_000_000
 
 
@@ -31,14 +33,14 @@ def row_of(outcome: Outcome, version: str) -> Dict[str, Any]:
     found = metrics.figures_of_acks(of_case, outcome.acks, link)
     after = metrics.figures_of_acks(of_case, outcome.acks, link, Window(SLOW_START_US))
     made = {"stack": outcome.stack, "version": version, "sender": outcome.sender, "run": outcome.run}
-    made.update({name: getattr(case, name) for name in (*OF_CASE, "segments")})
+    made.update({name: getattr(case, name) for name in (*OF_CASE, "segments", *OF_CHANCE)})
     made.update({name: found[name] for name in FIGURES}, lost_after_5s=after.get("lost", 0))
     return {**made, **(outcome.notes or {})}
 
 
-def frame_of(rows: Iterable[Dict[str, Any]]) -> pd.DataFrame:
-    """The rows as a frame with COLUMNS."""
-    return pd.DataFrame(list(rows), columns=COLUMNS)
+def frame_of(rows: Iterable[Dict[str, Any]], columns: Sequence[str] = COLUMNS) -> pd.DataFrame:
+    """The rows as a frame with these columns."""
+    return pd.DataFrame(list(rows), columns=list(columns))
 
 
 def write(frame: pd.DataFrame, path: Path) -> None:
@@ -46,17 +48,17 @@ def write(frame: pd.DataFrame, path: Path) -> None:
     frame.to_csv(path, index=False, float_format="%.6g", lineterminator="\n")
 
 
-def read(path: Path) -> pd.DataFrame:
-    """The figures in a file. Another file is a CcpError."""
+def read(path: Path, columns: Sequence[str] = COLUMNS) -> pd.DataFrame:
+    """The figures in a file, with these columns. Another file is a CcpError."""
     try:
         frame = pd.read_csv(path)
     except (OSError, ValueError) as error:
         raise CcpError("%s: no figures of bench/fidelity: %s" % (path, error)) from None
-    missing = [name for name in COLUMNS if name not in frame]
+    missing = [name for name in columns if name not in frame]
     if missing or frame.empty:
         what = "the columns %s are missing" % ", ".join(missing) if missing else "there is no row"
         raise CcpError("%s: no figures of bench/fidelity: %s" % (path, what))
-    return frame[COLUMNS]
+    return frame[list(columns)]
 
 
 def medians(frame: pd.DataFrame) -> pd.DataFrame:

@@ -2,11 +2,11 @@
 """A bulk TCP flow by the kernel's senders.
 
     stream.py receive ADDRESS PORT
-    stream.py send ADDRESS PORT SENDER WINDOWS
+    stream.py send ADDRESS PORT SENDER WINDOWS BEGIN
 
 `receive` prints `ready`, and then reads one connection until it ends. `send` sends without an end, with SENDER as the
-kernel's congestion control (reno, cubic), and writes a line to WINDOWS every 20 ms: nanoseconds of the monotonic clock,
-and the congestion window in segments. SIGTERM ends both."""
+kernel's congestion control (reno, cubic), from BEGIN on, which is in nanoseconds of the monotonic clock. It writes a
+line to WINDOWS every 20 ms: the same clock, and the congestion window in segments. SIGTERM ends both."""
 import select
 import signal
 import socket
@@ -37,12 +37,13 @@ def window_of(connection: socket.socket) -> int:
     return int(struct.unpack_from("=I", info, WINDOW_AT)[0])
 
 
-def send(address: str, port: int, sender: str, path: str) -> None:
-    """Sends until it is ended."""
+def send(address: str, port: int, sender: str, path: str, begin: str) -> None:
+    """Sends from a time on until it is ended."""
     with socket.socket() as connection, open(path, "w", encoding="ascii") as windows:
         connection.setsockopt(socket.IPPROTO_TCP, socket.TCP_CONGESTION, sender.encode())
         connection.connect((address, port))
         connection.setblocking(False)
+        time.sleep(max(0, int(begin) - time.monotonic_ns()) / 1e9)
         due = 0
         while True:
             now = time.monotonic_ns()

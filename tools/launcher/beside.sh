@@ -4,7 +4,7 @@
 # Runs the program $1 beside this shell, prints its error line, and sets `status`. At a terminal the seconds of a long run
 # are counted, except where what is typed is the input, and in `feed`, whose user answers.
 run_beside() {
-    local input errors output child counter='' filter='' interrupted='' begun=$SECONDS
+    local input errors output both passed child counter='' filter='' interrupted='' begun=$SECONDS
     if [ -t 2 ]; then name_ignored; fi
     if [ ${#files[@]} -gt 1 ]; then
         exec {input}< <(input_of_files)
@@ -13,13 +13,17 @@ run_beside() {
     else
         exec {input}<&0
     fi
-    if [ -t 2 ] && [ ! -t "$input" ] && [ "$mode" != feed ]; then
+    if [ -t 2 ] && [ "$mode" != feed ] && { [ ! -t "$input" ] || [ "${kind_of[$mode]}" = nothing ]; }; then
         count_seconds &
         counter=$!
     fi
     if [ -n "$counter" ] && [ -t 1 ]; then
-        exec {output}> >(pass_on "$counter")
+        # a pipe, whose ends are opened one by one: the shell waits for a job, and not for an earlier substitution
+        exec {both}<> <(:)
+        exec {passed}< "/dev/fd/$both" {output}> "/dev/fd/$both" {both}>&-
+        pass_on "$counter" <&"$passed" {output}>&- &
         filter=$!
+        exec {passed}<&-
     else
         exec {output}>&1
     fi
@@ -35,7 +39,7 @@ run_beside() {
     if [ -n "$interrupted" ]; then stop_program "$child" "$counter" "$interrupted"; fi
     wait "$child"
     status=$?
-    if [ -n "$filter" ]; then wait_for "$filter"; else stop_counter "$counter"; fi
+    if [ -n "$filter" ]; then wait "$filter"; else stop_counter "$counter"; fi
     trap - INT TERM HUP
     IFS= read -r -d '' error_line <&"$errors"
     print_errors
@@ -48,14 +52,6 @@ name_ignored() {
         option=${option%%=*}
         if ! uses_option "$mode" "${option#--}"; then printf 'ccp: warning: %s ignores %s\n' "$mode" "$option" >&2; fi
     done
-}
-
-# Waits for a substitution, which may not be the last one.
-wait_for() {
-    local never
-    exec {never}<> <(:)
-    while kill -0 "$1" 2>/dev/null; do read -rt 0.02 -u "$never"; done
-    exec {never}>&-
 }
 
 # Ends a run that is interrupted, with the status $3.

@@ -17,6 +17,25 @@ installed=${launcher%/launcher}/ccp
 # what is known of the proved programs, and where the search for changes since then is read, once it is begun
 known=$kept/found search=''
 
+# Begins to look for what changed since it was found which program is proved. The search has processes of its own, since it
+# takes longer than all else that is done meanwhile, and each looks at one of the two lists.
+begin_search() {
+    if [ -n "${CCP_PROGRAM:-}" ] || [ ! -e "$known" ] || [ ! -e "$known.antt" ]; then return; fi
+    # shellcheck disable=SC2185
+    exec {search}< <(
+        exec 2>&1
+        cd "$here/crates" || exit
+        export LC_ALL=C
+        find -files0-from "$known.antt" -maxdepth 0 -cnewer "$known" -print -quit &
+        find -files0-from "$known.sources" -maxdepth 0 -cnewer "$known" -print -quit
+        wait
+    )
+    searcher=$!
+}
+
+# the launcher needs the answer for a mode, and reads the rest meanwhile
+if [ -n "${needs_search-}" ]; then begin_search; fi
+
 fail() {
     printf 'ccp: %s\n' "$1" >&2
     exit 1
@@ -32,15 +51,6 @@ is_current() {
 newer_source() {
     find "$here/crates.txt" "$here"/crates/*/* -path "$here/crates/*/out" ! -path "$here/crates/*/*/out" -prune -o \
         -type f \( -name '*.rt' -o -name '*.antt' -o -name crates.txt \) -newer "$1" -print -quit
-}
-
-# Begins to look for what changed since it was found which program is proved. The search has a process of its own, since
-# it takes longer than all else that is done meanwhile.
-begin_search() {
-    if [ -n "${CCP_PROGRAM:-}" ] || [ ! -e "$known" ]; then return; fi
-    # shellcheck disable=SC2185
-    exec {search}< <(cd "$here/crates" && LC_ALL=C exec find -files0-from "$known.sources" -maxdepth 0 -cnewer "$known" -print -quit 2>&1)
-    searcher=$!
 }
 
 # Sets `finding` to what proved program there is of the sources of this checkout (finding.sh). What was found before holds

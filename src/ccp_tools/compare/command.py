@@ -7,7 +7,7 @@ import json
 import sys
 import time
 from pathlib import Path
-from typing import Any, Dict, List, Mapping, Sequence, Tuple
+from typing import Any, Dict, List, Mapping, Sequence
 
 import pandas as pd
 
@@ -250,14 +250,6 @@ def answered_of(arguments: argparse.Namespace) -> List[str]:
     return found
 
 
-def twice(traces: Sequence[Tuple[str | None, str]]) -> List[str]:
-    """Warnings of traces that are given more than once."""
-    paths = [path for _, path in traces]
-    return [
-        "%s is given %d times" % (path, paths.count(path)) for path in dict.fromkeys(paths) if paths.count(path) > 1
-    ]
-
-
 def run(arguments: argparse.Namespace) -> int:
     """Runs `ccp compare`."""
     arguments = with_file(arguments)
@@ -265,7 +257,7 @@ def run(arguments: argparse.Namespace) -> int:
     scenario = grid.scenario()
     check_longest(scenario)
     if not arguments.quiet:
-        for text in [*twice(arguments.traces), *grid.notes, *report.gap_warnings(scenario)]:
+        for text in [*grid.notes, *report.gap_warnings(scenario)]:
             warn(text)
     path = program.find_program(arguments.ccp)
     remarks = programs.check(files_of(arguments.senders, arguments.portus), scenario["programs"], path)

@@ -362,6 +362,7 @@ class Page:
             has_doubts=any(row.doubts for row in rows),
             real=self.real.notes,
             is_seeded=self.groups is not None,
+            is_part=sum(map(len, shown_cases(self.scenario).values())) < cases,
             overall=overall_rows(self.frame) if traces > 1 else [],
             overall_heads=[SHOWN[name].label for name in OVERALL],
             shared=shared.table_of(self.sharings),

@@ -44,14 +44,14 @@ class Series:
 
 @dataclass(frozen=True)
 class Sharing:
-    """What the senders did together over a trace. `converged_s` is None where the flows don't converge, and `doubts`
-    are what makes its figures doubtful."""
+    """What the senders did together over a trace, in a run for each seed: `rows` has the figures of each sender in each
+    run, with `seed` and `converged_s`, which is None where the flows don't converge. `series` is of the first run, and
+    `doubts` are what makes figures doubtful."""
 
     trace: str
     names: List[str]
     series: Series
     rows: List[Dict[str, Any]]
-    converged_s: float | None
     quantum_us: int
     doubts: List[str] = field(default_factory=list)
 
@@ -119,25 +119,57 @@ def converged(times: Sequence[float], acked: np.ndarray) -> float | None:
     return found
 
 
+def sets_of(scenario: Scenario) -> Dict[str, List[List[int]]]:
+    """The numbers of the cases that share a trace, a set for each seed: those with the first queue, delay, loss and
+    mark."""
+    found, cases = {}, scenario["cases"]
+    for trace, shown in shown_cases(scenario).items():
+        rest = without_seed(cases[shown[0]])
+        seeds: Dict[Any, List[int]] = {}
+        for number, case in enumerate(cases):
+            if without_seed(case) == rest:
+                seeds.setdefault(case.get("seed"), []).append(number)
+        found[trace] = list(seeds.values())
+    return found
+
+
+def without_seed(case: Mapping[str, Any]) -> List[Any]:
+    """What a case is of, but for its sender and its seed."""
+    return [case.get(name) for name in ("trace", "queue", "delay_us", "loss", "mark")]
+
+
 def run_all(
     scenario: Scenario, windows: Mapping[str, Window], folder: Path, progress: Progress, path: Path
 ) -> List[Sharing]:
-    """Runs the senders together over each trace, and keeps scenario and table in the folder."""
+    """Runs the senders together over each trace, and keeps the scenarios and the tables in the folder."""
     made = []
-    for trace, numbers in shown_cases(scenario).items():
+    for trace, sets in sets_of(scenario).items():
         until_us = windows[trace].until_us or LEAST_US
-        one = scenario_of(scenario, trace, numbers, until_us)
-        progress.say("shared: %s together over %s" % (metrics.counted(len(numbers), "flow"), trace))
-        write_scenario(one, folder / ("shared-%s.json" % trace))
-        printed = program.run("shared", one, program=path).output
-        (folder / ("shared-%s.txt" % trace)).write_text(printed)
-        table = texts.read_table(printed)
-        rows = metrics.rows_of(metrics.figures(one, table=table))
-        names = [str(row["sender"]) for row in rows]
-        series, quantum_us = series_of(one, path), one["shared"]["quantum_us"]
-        since = converged(series.times, series.acked)
-        made.append(Sharing(trace, names, series, rows, since, quantum_us, doubts_of(one, table, rows)))
+        seeds = ", " + metrics.counted(len(sets), "seed") if len(sets) > 1 else ""
+        progress.say("shared: %s together over %s%s" % (metrics.counted(len(sets[0]), "flow"), trace, seeds))
+        runs: List[Sharing] = []
+        for numbers in sets:
+            seed = "-s%d" % scenario["cases"][numbers[0]]["seed"] if runs else ""
+            name = "shared-%s%s" % (trace, seed)
+            runs.append(run_one(scenario_of(scenario, trace, numbers, until_us), folder / name, path))
+        first = runs[0]
+        rows = [row for run in runs for row in run.rows]
+        doubts = dict.fromkeys(text for run in runs for text in run.doubts)
+        made.append(Sharing(trace, first.names, first.series, rows, first.quantum_us, list(doubts)))
     return made
+
+
+def run_one(one: Scenario, kept: Path, path: Path) -> Sharing:
+    """Runs the flows of a scenario of `shared`, and keeps it and its table under the name of a file without its end."""
+    trace, seed = one["shared"]["trace"], one["cases"][0].get("seed")
+    write_scenario(one, kept.with_name(kept.name + ".json"))
+    printed = program.run("shared", one, program=path).output
+    kept.with_name(kept.name + ".txt").write_text(printed)
+    table, series = texts.read_table(printed), series_of(one, path)
+    since = converged(series.times, series.acked)
+    rows = [{**row, "seed": seed, "converged_s": since} for row in metrics.rows_of(metrics.figures(one, table=table))]
+    names, doubts = [str(row["sender"]) for row in rows], doubts_of(one, table, rows)
+    return Sharing(trace, names, series, rows, one["shared"]["quantum_us"], doubts)
 
 
 def doubts_of(one: Scenario, table: texts.Table, rows: Sequence[Mapping[str, Any]]) -> List[str]:
@@ -182,34 +214,49 @@ def pages_of(one: Sharing, scenario: Scenario, look: Look) -> List[Figure]:
     ]
 
 
+# the figures of the report's table, with their heads
+FIGURES = {
+    "throughput_mbps": metrics.SHOWN["throughput_mbps"],
+    "share": metrics.SHOWN["share"],
+    "loss_rate": metrics.SHOWN["loss_rate"],
+    "jain": metrics.SHOWN["jain"],
+    "link_utilization": metrics.Figure("link: utilization [%]", 100, 1),
+    "link_loss_rate": metrics.Figure("link: lost packets [%]", 100, 2),
+    "converged_s": metrics.Figure("converged after [s]", 1, 2),
+}
+HEADS = [shown.label for shown in FIGURES.values()]
+
+
 def table_of(found: Sequence[Sharing]) -> List[Dict[str, Any]]:
-    """The rows of the report's table of shares."""
+    """The rows of the report's table of shares: means over the seeds, with half of their 95 % intervals."""
     made = []
     for one in found:
-        for row in one.rows:
-            cells = [metrics_text(row, name) for name in ("throughput_mbps", "share", "loss_rate")]
-            cells += [metrics_text(row, "jain"), "%.1f" % (100 * (row["link_utilization"] or 0))]
-            cells += ["%.2f" % (100 * (row["link_loss_rate"] or 0))]
-            cells += ["none" if one.converged_s is None else "%.2f" % one.converged_s]
-            made.append({"trace": one.trace, "sender": row["sender"], "cells": cells, "doubts": row["doubts"]})
+        frame = pd.DataFrame(one.rows)
+        groups = metrics.groups(frame, ["sender"], list(FIGURES)).to_dict("records")
+        for group in groups:
+            doubts = [row["doubts"] for row in one.rows if row["sender"] == group["sender"] and row["doubts"]]
+            cells = [cell_of(group, name) for name in FIGURES]
+            made.append(
+                {
+                    "trace": one.trace,
+                    "sender": group["sender"],
+                    "cells": cells,
+                    "doubts": "; ".join(dict.fromkeys(doubts)),
+                }
+            )
     return made
 
 
-def metrics_text(row: Mapping[str, Any], name: str) -> str:
-    """A figure of a row as the table shows it, in the unit of its column, or none."""
-    shown, value = metrics.SHOWN[name], row[name]
-    return "none" if value is None else "%.*f" % (shown.decimals, value * shown.factor)
-
-
-HEADS = [
-    "throughput [Mbit/s]",
-    "share [%]",
-    "lost packets [%]",
-    "Jain's index",
-    "link: utilization [%]",
-    "link: lost packets [%]",
-    "converged after [s]",
-]
+def cell_of(group: Mapping[str, Any], name: str) -> str:
+    """A figure of a group as the table shows it, or none. Where only some seeds have it their number is shown."""
+    shown, mean, half = FIGURES[name], group[name + "_mean"], group[name + "_ci95"]
+    if pd.isna(mean):
+        return "none"
+    text = "%.*f" % (shown.decimals, mean * shown.factor)
+    if not pd.isna(half):
+        text += " ±%.*f" % (shown.decimals, half * shown.factor)
+    count, known = int(group["n"]), int(group[name + "_n"])
+    return text if count == known else "%s in %d of %d" % (text, known, count)
 
 
 def mean_waits(series: Series) -> List[float | None] | None:
@@ -220,7 +267,7 @@ def mean_waits(series: Series) -> List[float | None] | None:
 
 
 def json_text(found: Sequence[Sharing]) -> str:
-    """Shares over time as JSON."""
+    """Shares over time of the first run, and the figures of each run, as JSON."""
     made = [
         {
             "trace": one.trace,
@@ -230,6 +277,7 @@ def json_text(found: Sequence[Sharing]) -> str:
             "acked_bytes": one.series.acked.tolist(),
             "lost_packets": one.series.lost.tolist(),
             "queue_ms": mean_waits(one.series),
+            "figures": [{name: metrics.plain(row[name]) for name in ("sender", "seed", *FIGURES)} for row in one.rows],
         }
         for one in found
     ]

@@ -1,6 +1,7 @@
 """What is likely meant otherwise in a scenario, though it is accepted, or refused for something else."""
 from __future__ import annotations
 
+from dataclasses import replace
 from typing import Dict, Iterator, List, Optional, Sequence, Set, Tuple
 
 from . import program_warnings
@@ -22,8 +23,19 @@ def warnings_of(scenario: Scenario, mode: str, is_accepted: bool = True) -> List
     for of, value in objects(scenario, mode):
         found += twice(value)
         found += unknown(scenario, mode, of, value) if of else []
-    found += [*unused(scenario, mode), *of_cases(scenario, mode)]
+    found = [*once(found), *unused(scenario, mode), *of_cases(scenario, mode)]
     return found + list(of_programs(scenario, mode)) if is_accepted else found
+
+
+def once(found: Sequence[Finding]) -> List[Finding]:
+    """Warnings that many cases have, each at its first place, with the number of the others."""
+    texts = [(one.what, *one.hints) for one in found]
+    made = []
+    for text in dict.fromkeys(texts):
+        one, others = found[texts.index(text)], texts.count(text) - 1
+        more = ["It is so at %d more place%s." % (others, "" if others == 1 else "s")] if others else []
+        made.append(replace(one, hints=[*one.hints, *more]))
+    return made
 
 
 def objects(scenario: Scenario, mode: str) -> List[Tuple[Optional[str], Value]]:
@@ -61,7 +73,7 @@ def unknown(scenario: Scenario, mode: str, of: str, value: Value) -> Iterator[Fi
             yield Finding("warning", key.start, key.end, "`%s` is ignored by `%s`" % (name, mode))
             continue
         near = nearest(name, [other for other in known if other not in value.names()] or known)
-        if near and not is_note(name):
+        if near and not is_note(name, value.members(name)[-1][1]):
             yield Finding("warning", key.start, key.end, "`%s` is ignored" % cut(name), ["Did you mean `%s`?" % near])
         elif not NOTES.fullmatch(name):
             yield Finding("warning", key.start, key.end, "`%s` is ignored: ccp knows no such member" % cut(name))
@@ -75,9 +87,10 @@ def others_of(scenario: Scenario, of: str) -> Sequence[str]:
     return [name for kind in kinds for name in scenario.rules.members(kind)] if of in kinds else []
 
 
-def is_note(name: str) -> bool:
-    """Whether a member is one of `ccp scenario`, whatever it looks like; `loss` may well be meant as `losses`."""
-    return name != "loss" and NOTES.fullmatch(name) is not None
+def is_note(name: str, value: Value) -> bool:
+    """Whether a member is one of `ccp scenario`, whatever it looks like. Its `loss` is a text; another one may well be
+    meant as `losses`."""
+    return NOTES.fullmatch(name) is not None and (name != "loss" or value.kind == "text")
 
 
 def unused(scenario: Scenario, mode: str) -> Iterator[Finding]:

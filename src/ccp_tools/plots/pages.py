@@ -15,6 +15,8 @@ from matplotlib.axes import Axes
 from matplotlib.figure import Figure
 from matplotlib.lines import Line2D
 from matplotlib.patches import Patch
+from matplotlib.text import Text
+from matplotlib.textpath import TextPath
 from matplotlib.ticker import FuncFormatter, LogLocator, MaxNLocator, NullLocator
 
 from ..errors import CcpError
@@ -211,6 +213,37 @@ def mark_cut(panel: Axes) -> None:
     panel.plot([0, 0], [0.025, 0.055], color="black", linestyle="", transform=panel.transAxes, **stroke)
 
 
+# ---- labels
+
+
+def fit_labels(figure: Figure) -> None:
+    """Breaks the labels of value axes that are longer than their panels, and makes them smaller where that doesn't do,
+    so that none reaches into another one or out of the figure."""
+    height = 72 * figure.get_figheight()
+    middles = {panel: height * (panel.get_position().y0 + panel.get_position().y1) / 2 for panel in figure.axes}
+    for panel, middle in middles.items():
+        text, label = panel.get_ylabel(), panel.yaxis.label
+        # of a panel above or below to the middle between the two, of the figure to its edge
+        apart = [abs(other - middle) for other in middles.values() if abs(other - middle) > 1]
+        room = min([*apart, 2 * middle, 2 * (height - middle)]) - 0.3 * label.get_fontsize()
+        if text and length_of(text, label) > room:
+            broken = min(broken_texts(text), key=lambda lines: length_of(lines, label))
+            label.set_text(broken)
+            label.set_fontsize(label.get_fontsize() * max(0.6, min(1, room / length_of(broken, label))))
+
+
+def broken_texts(text: str) -> List[str]:
+    """A text with one of its blanks as the end of a line, or the text alone."""
+    blanks = [at for at, letter in enumerate(text) if letter == " "]
+    return [text[:at] + "\n" + text[at + 1 :] for at in blanks] or [text]
+
+
+def length_of(text: str, label: Text) -> float:
+    """The length of the longest line of a text in points, with the font of a label."""
+    font, size = label.get_fontproperties(), label.get_fontsize()
+    return max(TextPath((0, 0), line, size=size, prop=font).get_extents().width for line in text.split("\n"))
+
+
 # ---- files
 
 
@@ -258,4 +291,7 @@ def add_fonts(path: Path) -> None:
 def drawn(look: Look, work: Callable[[], List[Figure]]) -> List[Figure]:
     """Pages that are made with the settings of a look."""
     with matplotlib.rc_context(look.settings()):
-        return work()
+        made = work()
+        for figure in made:
+            fit_labels(figure)
+        return made
