@@ -38,6 +38,7 @@ use Rattle.ccp_run.specs.Fold.{acks_below, IsFoldInput, IsFoldOutput, IsNoFold, 
 use Rattle.ccp_run.specs.AuditRuns.{IsAuditCut, IsAuditInput, IsAuditOutput, IsNoAudit, audit_rules}
 use Rattle.ccp_run.specs.ErrorLine.{most_bytes}
 use Rattle.ccp_run.specs.Settled.{IsInputSettled}
+use Rattle.ccp_run.proofs.DriveModes.{drive_mode}
 use Rattle.ccp_run.proofs.ModeLaws.{IsMode, no_both, reads_to_end, settled_by}
 use Rattle.ccp_run.proofs.ScenarioInputs.{refusal_in}
 
@@ -267,7 +268,8 @@ feed_mode : IsMode feed_rules
 feed_mode = record {
   settled = settled_feed;
   begins = no-answers;
-  plain = λ plain bytes. no_both plain;
+  quiet = λ quiet bytes. no_both quiet;
+  plain = λ plain. no_both plain;
   unread = λ unread bytes refusal refused. no_both unread;
 }
 
@@ -275,4 +277,5 @@ pub alone_mode : (alone : AloneMode) → IsMode (rules_of (Alone alone))
 alone_mode mode.Check = reads_to_end Input IsProgramText IsCheckOutput IsNoCheck settled_check
 alone_mode mode.Fold = reads_to_end Input IsFoldInput IsFoldOutput IsNoFold settled_fold
 alone_mode mode.Feed = feed_mode
+alone_mode mode.Drive = drive_mode
 alone_mode mode.Audit = reads_to_end Audit IsAuditInput IsAuditOutput IsNoAudit settled_audit

@@ -8,7 +8,7 @@ use Rattle.ccp_run.specs.declared.status.Status.{Status}
 use Rattle.ccp_run.specs.declared.status.Status.TheVariants as status
 use Rattle.ccp_run.specs.Attempts.{MakesOutput, RefusesBytes, RefusesAny}
 use Rattle.ccp_run.specs.Complete.{EndsAs, IsNoInput, AnswersOrRefuses}
-use Rattle.ccp_run.specs.Modes.{Task, limit_of, is_read, is_stream, IsInput, IsMade, IsInputRefusal}
+use Rattle.ccp_run.specs.Modes.{Task, limit_of, is_read, is_stream, is_answered, IsInput, IsMade, IsInputRefusal}
 use Rattle.ccp_run.specs.Run.{EndsWith, IsRun, WritesAnyFront}
 use Rattle.ccp_run.specs.Statuses.{status_number}
 use Rattle.ccp_run.specs.Streams.{StreamChange, HasInput}
@@ -82,20 +82,20 @@ module _ (task : Task) (source sink errors : StreamChange) (is_finished : Type 0
   answered bytes is short input no_read no_write status.WriteFailed e ended = absurd (no_write ended.rose)
   answered bytes is short input no_read no_write status.NoMemory e ended = inr e
 
-  no_front : (bytes : List ℕ) → source.old ≡ Some bytes → IsNoInput task bytes → (is_stream task ≡ true → Rose sink.before sink.now → ⊥) → Rose sink.before sink.now
-      → (answers_early : Bool) → is_stream task ≡ answers_early → WritesAnyFront answers_early task source sink → ⊥
+  no_front : (bytes : List ℕ) → source.old ≡ Some bytes → IsNoInput task bytes → (is_answered task ≡ true → Rose sink.before sink.now → ⊥) → Rose sink.before sink.now
+      → (answers_early : Bool) → is_answered task ≡ answers_early → WritesAnyFront answers_early task source sink → ⊥
   no_front bytes is other no_write rose true e front = no_write e rose
   no_front bytes is other no_write rose false e front = not_made task source bytes is front.output other front.made
 
   refuses : (bytes : List ℕ) → source.old ≡ Some bytes → IsNoInput task bytes → (Rose source.before source.now → ⊥)
-      → (is_stream task ≡ true → Rose sink.before sink.now → ⊥)
+      → (is_answered task ≡ true → Rose sink.before sink.now → ⊥)
       → (end : Status) → outcome.status ≡ status_number end → EndsWith end task source sink errors is_finished outcome → EndsAs status.InputRefused outcome
   refuses bytes is other no_read no_write status.Done e ended = absurd (not_made task source bytes is ended.output other ended.made)
   refuses bytes is other no_read no_write status.WordsRefused e ended = absurd ended
   refuses bytes is other no_read no_write status.InputRefused e ended = inl e
   refuses bytes is other no_read no_write status.ReadFailed e ended = absurd (no_read ended.rose)
   refuses bytes is other no_read no_write status.WriteFailed e ended =
-      absurd (no_front bytes is other no_write ended.rose (is_stream task) refl ended.front)
+      absurd (no_front bytes is other no_write ended.rose (is_answered task) refl ended.front)
   refuses bytes is other no_read no_write status.NoMemory e ended = inr e
 
   -- a run is complete

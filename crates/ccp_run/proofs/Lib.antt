@@ -2,10 +2,17 @@
 mod FoldLemmas
 mod ModeLaws
 mod ScenarioInputs
+mod DriveModes
 mod AloneModes
 mod WorkerModes
 pub mod RunLemmas
 mod FeedRunLemmas
+pub mod DriveFronts
+pub mod DriveFrames
+mod DriveSessions
+pub mod DriveRuns
+pub mod DriveRunLemmas
+pub mod DriveTextRuns
 mod CompleteRuns
 pub mod ReadLemmas
 mod CodedLemmas

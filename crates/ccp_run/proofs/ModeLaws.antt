@@ -10,8 +10,10 @@ pub record IsMode (rules : Rules) : Type 0 where
   pub settled : (bytes : List ℕ) → IsSettledBy rules bytes
   -- no bytes have no answers
   pub begins : rules.answers_before [] ≡ []
-  -- a mode that isn't a stream answers and refuses nothing before its input's end
-  pub plain : rules.is_stream ≡ false → (bytes : List ℕ) → (rules.answers_before bytes ≡ []) × rules.GoesOn bytes
+  -- a mode that doesn't answer its input as it comes writes nothing before the input's end
+  pub quiet : rules.is_answered ≡ false → (bytes : List ℕ) → rules.answers_before bytes ≡ []
+  -- a mode that doesn't judge its input as it comes doesn't answer it so either, and refuses nothing before its end
+  pub plain : rules.is_stream ≡ false → (rules.is_answered ≡ false) × ((bytes : List ℕ) → rules.GoesOn bytes)
   -- a mode that doesn't read its source refuses nothing
   pub unread : rules.is_read ≡ false → (bytes : List ℕ) (refusal : Refusal) → rules.IsRefused bytes refusal → ⊥
 
@@ -24,7 +26,8 @@ module _ (most : Limit) (inputs : List ℕ → Type 0) (made : List ℕ → Mode
   reads_to_end settled = record {
     settled = settled;
     begins = refl;
-    plain = λ _ bytes. (refl, tt);
+    quiet = λ _ bytes. refl;
+    plain = λ _. (refl, λ bytes. tt);
     unread = λ not bytes refusal bad. no_both not;
   }
 

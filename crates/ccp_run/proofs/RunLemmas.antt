@@ -5,14 +5,16 @@ use Rattle.feed_core.specs.FeedEnds.{AreHandedOn}
 use Rattle.ccp_run.specs.declared.outcome.ModeOutput.{ModeOutput}
 use Rattle.ccp_run.specs.declared.outcome.Outcome.{Outcome}
 use Rattle.ccp_run.specs.declared.refusal.Refusal.{Refusal}
+use Rattle.ccp_run.specs.declared.refusal.Refusal.TheVariants.{TooLong}
 use Rattle.ccp_run.specs.declared.status.Status.{Status}
 use Rattle.ccp_run.specs.declared.status.Status.TheVariants as status
 use Rattle.ccp_run.specs.declared.stop.Stop.{Stop}
 use Rattle.ccp_run.specs.declared.stop.Stop.TheVariants as stop
 use Rattle.ccp_run.specs.Attempts.{IsAttempt, MakesOutput, RefusesInput, RefusesAny, FailsToRead, StopsWithoutMemory}
+use Rattle.ccp_run.specs.DriveTexts.{IsStreamAttempt, RefusesStream}
 use Rattle.ccp_run.specs.Endings.{Ends, IsEnding, Writes, WritesAll, Refuses}
 use Rattle.ccp_run.specs.ErrorLine.{refusal_line}
-use Rattle.ccp_run.specs.Modes.{Task, limit_in, limit_of, is_read, is_stream, answers_before}
+use Rattle.ccp_run.specs.Modes.{Task, limit_in, limit_of, is_read, is_stream, is_answered, answers_before}
 use Rattle.ccp_run.specs.Run.{EndsWith, IsReadFailed, IsRun, WritesFront, WritesAnyFront, WritesAnswers, WritesSomeAnswers}
 use Rattle.ccp_run.specs.Statuses.{status_number, read_line, write_line, memory_line}
 use Rattle.ccp_run.specs.Streams.{StreamChange, HasInput, IsLeft, IsUntouched}
@@ -94,7 +96,7 @@ module _ (task : Task) (source sink errors : StreamChange) (is_finished : Type 0
   }
 
   -- a write failed
-  pub ends_unwritten : Rose sink.before sink.now → WritesAnyFront (is_stream task) task source sink → TakesWithin (limit_of task) source.old source.new → IsLeft (is_read task) source
+  pub ends_unwritten : Rose sink.before sink.now → WritesAnyFront (is_answered task) task source sink → TakesWithin (limit_of task) source.old source.new → IsLeft (is_read task) source
       → Ends errors outcome status.WriteFailed write_line
       → IsRun task source sink errors is_finished outcome
   ends_unwritten rose front few left e = record {
@@ -144,13 +146,16 @@ module _ (task : Task) (source sink errors : StreamChange) (is_finished : Type 0
       })
       e
 
--- if the mode reads its source to the end before it writes
-module _ (task : Task) (plain : is_stream task ≡ false) (source sink errors : StreamChange) (is_finished : Type 0) (outcome : Outcome) where
+-- if the mode writes nothing before its input's end
+module _ (task : Task) (quiet : is_answered task ≡ false) (source sink errors : StreamChange) (is_finished : Type 0) (outcome : Outcome) where
+  silent : (taken : List ℕ) → answers_before task taken ≡ []
+  silent taken = (is_mode task).quiet quiet taken
+
   no_answers : (taken : List ℕ) → sink.new ≡ sink.old → Appends sink.old sink.new (answers_before task taken)
-  no_answers taken same = subst (Appends sink.old sink.new) (sym ((is_mode task).plain plain taken).0) (appends_nothing sink.old sink.new same)
+  no_answers taken same = subst (Appends sink.old sink.new) (sym (silent taken)) (appends_nothing sink.old sink.new same)
 
   none_handed : (taken : List ℕ) → AreHandedOn (answers_before task taken) is_finished
-  none_handed taken = inl ((is_mode task).plain plain taken).0
+  none_handed taken = inl (silent taken)
 
   answers : (taken : List ℕ) → Takes source.old source.new taken → sink.new ≡ sink.old → WritesAnswers task source sink is_finished
   answers taken takes same = record { taken = taken; takes = takes; answers = no_answers taken same; handed = none_handed taken }
@@ -161,17 +166,14 @@ module _ (task : Task) (plain : is_stream task ≡ false) (source sink errors : 
     rest = [];
     later = [];
     takes = subst (Takes source.old source.new) (sym (append-nil few.taken)) few.takes;
-    answers = subst (Appends sink.old sink.new) (sym ((is_mode task).plain plain few.taken).0) (appends_nothing sink.old sink.new same);
+    answers = no_answers few.taken same;
     handed = none_handed few.taken;
     begins = ap (answers_before task) (append-nil few.taken) ∙ sym (append-nil (answers_before task few.taken));
     kept = omega arith;
   }
 
-  plain_cause : (refusal : Refusal) → RefusesInput task source refusal → RefusesAny (is_stream task) task source refusal
-  plain_cause refusal cause = subst (λ (b : Bool). RefusesAny b task source refusal) (sym plain) cause
-
-  plain_front : WritesFront task source sink → WritesAnyFront (is_stream task) task source sink
-  plain_front front = subst (λ (b : Bool). WritesAnyFront b task source sink) (sym plain) front
+  whole_front : WritesFront task source sink → WritesAnyFront (is_answered task) task source sink
+  whole_front front = subst (λ (b : Bool). WritesAnyFront b task source sink) (sym quiet) front
 
   -- the output was made, and written or not
   written_or_not : (output : ModeOutput) → MakesOutput task source output → Writes sink errors is_finished outcome output → (outcome.status ≡ 0) ⊎ (outcome.status ≢ 0)
@@ -180,11 +182,19 @@ module _ (task : Task) (plain : is_stream task ≡ false) (source sink errors : 
   written_or_not output made w (inr not) =
       let failed = w.failed not in
       ends_unwritten task source sink errors is_finished outcome failed.rose
-      (plain_front (record { output = output; made = made; front = failed.front }))
+      (whole_front (record { output = output; made = made; front = failed.front }))
       (within_of task source made.bytes (is_read task) made.read made.short) (left_of source made.bytes (is_read task) made.read) failed.ends
 
   wants_memory : StopsWithoutMemory task source → sink.new ≡ sink.old → Ends errors outcome status.NoMemory memory_line → IsRun task source sink errors is_finished outcome
   wants_memory wants same e = ends_wanting task source sink errors is_finished outcome wants.within wants.left (some_answers wants.within same) e
+
+-- if the mode reads its source to the end before it writes
+module _ (task : Task) (plain : is_stream task ≡ false) (source sink errors : StreamChange) (is_finished : Type 0) (outcome : Outcome) where
+  quiet : is_answered task ≡ false
+  quiet = ((is_mode task).plain plain).0
+
+  plain_cause : (refusal : Refusal) → RefusesInput task source refusal → RefusesAny (is_stream task) task source refusal
+  plain_cause refusal cause = subst (λ (b : Bool). RefusesAny b task source refusal) (sym plain) cause
 
   read_failed : FailsToRead task source → sink.new ≡ sink.old → Ends errors outcome status.ReadFailed read_line → IsRun task source sink errors is_finished outcome
   read_failed failed same e =
@@ -196,27 +206,66 @@ module _ (task : Task) (plain : is_stream task ≡ false) (source sink errors : 
         taken = taken;
         takes = failed.within.takes;
         within = failed.within.within;
-        goes_on = ((is_mode task).plain plain taken).1;
-        answers = no_answers taken same;
-        handed = none_handed taken;
+        goes_on = ((is_mode task).plain plain).1 taken;
+        answers = no_answers task quiet source sink errors is_finished outcome taken same;
+        handed = none_handed task quiet source sink errors is_finished outcome taken;
         ends = e;
       })
       (is_left (is_read task) source failed.reads)
 
   refused_or_not : (refusal : Refusal) → RefusesInput task source refusal → sink.new ≡ sink.old → Refuses errors outcome refusal → (outcome.status ≡ 3) ⊎ (outcome.status ≢ 3) → IsRun task source sink errors is_finished outcome
   refused_or_not refusal (inl length) same r which =
-      ends_refused task source sink errors is_finished outcome refusal (plain_cause refusal (inl length)) length.most (is_left (is_read task) source length.reads) (answers length.over.taken length.over.takes same)
-      (r.told (r.too_long (limit_in task) length.cause))
+      ends_refused task source sink errors is_finished outcome refusal (plain_cause refusal (inl length)) length.most (is_left (is_read task) source length.reads)
+      (answers task quiet source sink errors is_finished outcome length.over.taken length.over.takes same) (r.told (r.too_long (limit_in task) length.cause))
   refused_or_not refusal (inr bytes) same r (inl three) =
       let few = within_of task source bytes.bytes (is_read task) bytes.read bytes.short in
       ends_refused task source sink errors is_finished outcome refusal (plain_cause refusal (inr bytes)) (one_more (limit_of task) source.old source.new few) (left_of source bytes.bytes (is_read task) bytes.read)
-      (answers few.taken few.takes same) (r.told three)
+      (answers task quiet source sink errors is_finished outcome few.taken few.takes same) (r.told three)
   refused_or_not refusal (inr bytes) same r (inr other) =
-      wants_memory (record { left = left_of source bytes.bytes (is_read task) bytes.read; within = within_of task source bytes.bytes (is_read task) bytes.read bytes.short }) same (r.failed other)
+      wants_memory task quiet source sink errors is_finished outcome
+      (record { left = left_of source bytes.bytes (is_read task) bytes.read; within = within_of task source bytes.bytes (is_read task) bytes.read bytes.short }) same (r.failed other)
 
   -- a run of a mode
   pub run_of : (made : Result ModeOutput Stop) → IsAttempt task source made → IsEnding sink errors is_finished outcome made → IsRun task source sink errors is_finished outcome
-  run_of (Ok output) attempt ending = written_or_not output attempt ending (is_zero outcome.status)
+  run_of (Ok output) attempt ending = written_or_not task quiet source sink errors is_finished outcome output attempt ending (is_zero outcome.status)
   run_of (Err (stop.Refused refusal)) attempt ending = refused_or_not refusal attempt ending.0 ending.1 (is_three outcome.status)
   run_of (Err stop.ReadFailed) attempt ending = read_failed attempt ending.0 ending.1
-  run_of (Err stop.NoMemory) attempt ending = wants_memory attempt ending.0 ending.1
+  run_of (Err stop.NoMemory) attempt ending = wants_memory task quiet source sink errors is_finished outcome attempt ending.0 ending.1
+
+-- if the mode judges its input as it comes, and then writes
+module _ (task : Task) (quiet : is_answered task ≡ false) (reads : is_read task ≡ true) (source sink errors : StreamChange) (is_finished : Type 0) (outcome : Outcome) where
+  left : IsLeft (is_read task) source
+  left = is_left (is_read task) source reads
+
+  stream_wants : TakesWithin (limit_of task) source.old source.new → sink.new ≡ sink.old → Ends errors outcome status.NoMemory memory_line → IsRun task source sink errors is_finished outcome
+  stream_wants few same e = wants_memory task quiet source sink errors is_finished outcome (record { left = left; within = few }) same e
+
+  stream_told : (refusal : Refusal) → RefusesStream task source refusal → sink.new ≡ sink.old → Ends errors outcome status.InputRefused (refusal_line refusal) → IsRun task source sink errors is_finished outcome
+  stream_told refusal r same e =
+      ends_refused task source sink errors is_finished outcome refusal r.cause r.most left (answers task quiet source sink errors is_finished outcome r.most.taken r.most.takes same) e
+
+  stream_refused : (refusal : Refusal) → RefusesStream task source refusal → (TakesWithin (limit_of task) source.old source.new ⊎ (refusal ≡ TooLong (limit_in task))) → sink.new ≡ sink.old → Refuses errors outcome refusal
+      → (outcome.status ≡ 3) ⊎ (outcome.status ≢ 3) → IsRun task source sink errors is_finished outcome
+  stream_refused refusal r over same report (inl three) = stream_told refusal r same (report.told three)
+  stream_refused refusal r (inl few) same report (inr other) = stream_wants few same (report.failed other)
+  stream_refused refusal r (inr long) same report (inr other) = stream_told refusal r same (report.told (report.too_long (limit_in task) long))
+
+  -- a run of such a mode
+  pub run_of_stream : (made : Result ModeOutput Stop) → IsStreamAttempt task source made → IsEnding sink errors is_finished outcome made → IsRun task source sink errors is_finished outcome
+  run_of_stream (Ok output) attempt ending = written_or_not task quiet source sink errors is_finished outcome output attempt ending (is_zero outcome.status)
+  run_of_stream (Err (stop.Refused refusal)) attempt ending = stream_refused refusal attempt attempt.over ending.0 ending.1 (is_three outcome.status)
+  run_of_stream (Err stop.ReadFailed) attempt ending =
+      ends_unread task source sink errors is_finished outcome
+      (record {
+        reads = reads;
+        rose = attempt.rose;
+        taken = attempt.taken;
+        takes = attempt.takes;
+        within = attempt.within;
+        goes_on = attempt.goes_on;
+        answers = no_answers task quiet source sink errors is_finished outcome attempt.taken ending.0;
+        handed = none_handed task quiet source sink errors is_finished outcome attempt.taken;
+        ends = ending.1;
+      })
+      left
+  run_of_stream (Err stop.NoMemory) attempt ending = stream_wants attempt ending.0 ending.1

@@ -6,13 +6,14 @@ use Rattle.scenario_json.specs.SharedScenes.{shared_scene_of}
 use Rattle.ccp_run.specs.AcksRuns.{TellsAcks}
 use Rattle.ccp_run.specs.Campaign.{TellsCampaign}
 use Rattle.ccp_run.specs.Live.{TellsLive}
-use Rattle.ccp_run.specs.Modes.{Task, Alone, Live, Campaign, Soak, Rollout, Shared, Timeline, Acks, SharedTimeline, SharedAcks, rules_of}
+use Rattle.ccp_run.specs.Modes.{Task, Alone, Live, Campaign, Soak, Rollout, Shared, Timeline, Acks, SharedTimeline, SharedAcks, Driven, rules_of}
 use Rattle.ccp_run.specs.Rollout.{IsRolloutOutput}
 use Rattle.ccp_run.specs.Shared.{IsSharedOutput}
 use Rattle.ccp_run.specs.SharedSeries.{SeriesText, IsSeriesOutput, series_rules, shared_timeline_text, shared_acks_text}
 use Rattle.ccp_run.specs.Soak.{soak_rules}
 use Rattle.ccp_run.specs.Timeline.{TellsTimeline}
 use Rattle.ccp_run.proofs.AloneModes.{alone_mode}
+use Rattle.ccp_run.proofs.DriveModes.{drive_text_mode}
 use Rattle.ccp_run.proofs.ModeLaws.{IsMode}
 use Rattle.ccp_run.proofs.ScenarioInputs.{text_mode, scene_mode}
 
@@ -25,7 +26,8 @@ soak_mode number = record {
     made = λ output made. tt;
   };
   begins = refl;
-  plain = λ _ bytes. (refl, tt);
+  quiet = λ _ bytes. refl;
+  plain = λ _. (refl, λ bytes. tt);
   unread = λ _ bytes refusal bad. bad;
 }
 
@@ -43,3 +45,4 @@ is_mode (Timeline wire) = scene_mode scene.Live (TellsTimeline wire)
 is_mode Acks = scene_mode scene.Live TellsAcks
 is_mode (SharedTimeline wire) = series_mode (shared_timeline_text wire)
 is_mode SharedAcks = series_mode shared_acks_text
+is_mode (Driven text wire) = drive_text_mode text wire

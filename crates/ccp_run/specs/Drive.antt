@@ -13,7 +13,7 @@ use Rattle.campaign_report.specs.AcksText.{own_acks_text}
 use Rattle.driven_flow.specs.Driven.{DrivenState, ReadsAlike, sourced_by, state_by, peak_by}
 use Rattle.driven_flow.specs.DrivenText.{driven_part}
 use Rattle.driven_flow.specs.Front.{divided}
-use Rattle.driven_flow.specs.Session.{bare}
+use Rattle.scene_core.specs.CompiledPrograms.{AreCompiled}
 use Rattle.scene_members.specs.declared.mode.SceneMode.TheVariants.{Driven}
 use Rattle.ccp_words.specs.declared.mode.DriveText.{DriveText}
 use Rattle.ccp_words.specs.declared.mode.DriveText.TheVariants as shown
@@ -27,22 +27,17 @@ use Rattle.ccp_run.specs.Scenes.{IsScenario}
 
 -- ---- the flows of an input, with its programs
 
--- the flow has these programs, and the same state over their sources as over their codes
-pub record IsDrivenBy (programs : List (ℕ × Built)) (flow : DrivenState) : Type 0 where
-  pub same : flow.programs ≡ programs
-  pub alike : ReadsAlike flow
-
--- the input is a scenario with these programs and frames that are whole up to its end, and these are its flows then, in
--- order
-pub record IsDriven (bytes : List ℕ) (programs : List (ℕ × Built)) (flows : List DrivenState) : Type 0 where
+-- the input is a scenario with these programs, whose codes are the compiler's, and frames that are whole up to its end;
+-- its flows have the same state over the sources of the programs as over their codes
+pub record IsDriven (bytes : List ℕ) (programs : List (ℕ × Built)) : Type 0 where
   pub whole : drive_refusal bytes ≡ None
   pub text : List ℕ
   pub frames : List ℕ
   pub at_line : divided bytes ≡ Some (text, frames)
   pub cases : List Case
   pub scenario : IsScenario Driven text programs cases
-  pub are : map bare flows ≡ driven_flows bytes
-  pub driven : All (IsDrivenBy programs) flows
+  pub compiled : AreCompiled programs
+  pub alike : All (ReadsAlike programs) (driven_flows bytes)
 
 -- ---- drive
 
@@ -50,8 +45,7 @@ pub record IsDriven (bytes : List ℕ) (programs : List (ℕ × Built)) (flows :
 -- the flows read alike over the sources
 pub record IsDriveOutput (bytes : List ℕ) (output : ModeOutput) : Type 0 where
   pub programs : List (ℕ × Built)
-  pub flows : List DrivenState
-  pub input : IsDriven bytes programs flows
+  pub input : IsDriven bytes programs
   pub written : output.text ≡ drive_written bytes
   pub kept : output.programs ≡ []
   pub no_books : output.books ≡ []
@@ -63,31 +57,35 @@ abbrev pub flow_names : List DrivenState → List (List ℕ)
 flow_names flows = map (λ (flow : DrivenState). flow.case.name) flows
 
 -- the row of a flow, read over the sources of its programs
-abbrev pub flow_row : DrivenState → Row
-flow_row flow = row_over (sourced_by flow) (state_by (sourced_by flow) flow) (peak_by (sourced_by flow) flow)
+abbrev pub flow_row : List (ℕ × Built) → DrivenState → Row
+flow_row programs flow =
+    let sourced = sourced_by programs flow in row_over sourced (state_by sourced flow) (peak_by sourced flow)
 
 -- the acknowledgements of a flow, read over the sources of its programs
-abbrev pub flow_acks : DrivenState → List Ack
-flow_acks flow = (state_by (sourced_by flow) flow).acks
+abbrev pub flow_acks : List (ℕ × Built) → DrivenState → List Ack
+flow_acks programs flow = (state_by (sourced_by programs flow) flow).acks
 
--- the parts of flows, each read over the sources of its programs
-abbrev pub flow_parts : List DrivenState → List ℕ
-flow_parts [] = []
-flow_parts (flow ∷ rest) =
-    driven_part (sources_of flow.programs) flow.case (state_by (sourced_by flow) flow) flow.answers ⧺ flow_parts rest
+-- the part of a flow in the live text, read over the sources of its programs
+abbrev pub flow_part : List (ℕ × Built) → DrivenState → List ℕ
+flow_part programs flow =
+    driven_part (sources_of programs) flow.case (state_by (sourced_by programs flow) flow) flow.answers
+
+-- the parts of flows, in order
+abbrev pub flow_parts : List (ℕ × Built) → List DrivenState → List ℕ
+flow_parts programs [] = []
+flow_parts programs (flow ∷ rest) = flow_part programs flow ⧺ flow_parts programs rest
 
 -- a text of flows of these programs, after the programs' frames if they are asked for and the text has them
 abbrev pub drive_text : DriveText → Bool → List (ℕ × Built) → List DrivenState → List ℕ
 drive_text shown.Table wire programs flows =
-    frames_shown wire programs ⧺ own_table_text (flow_names flows) (map flow_row flows)
-drive_text shown.Timeline wire programs flows = frames_shown wire programs ⧺ flow_parts flows
-drive_text shown.Acks wire programs flows = own_acks_text (flow_names flows) (map flow_acks flows)
+    frames_shown wire programs ⧺ own_table_text (flow_names flows) (map (flow_row programs) flows)
+drive_text shown.Timeline wire programs flows = frames_shown wire programs ⧺ flow_parts programs flows
+drive_text shown.Acks wire programs flows = own_acks_text (flow_names flows) (map (flow_acks programs) flows)
 
 -- the output is that text of the input's flows
 pub record IsDriveTextOutput (text : DriveText) (wire : Bool) (bytes : List ℕ) (output : ModeOutput) : Type 0 where
-  pub flows : List DrivenState
-  pub input : IsDriven bytes output.programs flows
-  pub written : output.text ≡ drive_text text wire output.programs flows
+  pub input : IsDriven bytes output.programs
+  pub written : output.text ≡ drive_text text wire output.programs (driven_flows bytes)
   pub no_books : output.books ≡ []
   pub idle : output.ran ≡ 0
 

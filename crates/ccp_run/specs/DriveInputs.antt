@@ -1,14 +1,18 @@
 -- What the bytes of an input of `drive` say: a scenario up to the first line `---`, then frames, and what is written for
--- them, read over the sources of the scenario's programs.
-use Rattle.std.specs.Prelude.{ℕ, ◌-◌, nat_lt, Bool, if◌then◌else◌, Option, Some, None, Result, Ok, Err, List, [], ◌++◌, length}
+-- them by flows that run the codes of the scenario's programs.
+use Rattle.std.specs.Prelude.{ℕ, ◌-◌, nat_lt, Bool, if◌then◌else◌, Option, Some, None, Result, Ok, Err, List, [], ◌++◌, length, map}
 use Rattle.ccp_base.specs.Limits.{most_input_bytes, most_audit_bytes}
 use Rattle.feed_core.specs.declared.ending.FeedEnd.{FeedEnd}
 use Rattle.feed_core.specs.declared.ending.FeedEnd.TheVariants as ends
 use Rattle.feed_core.specs.Answering.{Answering, answering}
 use Rattle.feed_core.specs.FeedBytes.{answer_bytes}
 use Rattle.feed_core.specs.FeedEnds.{MayGoOn}
+use Rattle.portus_core.specs.Programs.{Form}
+use Rattle.reg_compiler.specs.CompiledCode.{code_of}
+use Rattle.reg_compiler.specs.Sources.{Sources}
+use Rattle.driven_flow.specs.Driven.{Codes, DrivenState}
 use Rattle.driven_flow.specs.Front.{divided, IsOpen}
-use Rattle.driven_flow.specs.Session.{SessionParts, FlowState, source_view, opening, first_frame, hear, waits}
+use Rattle.driven_flow.specs.Session.{SessionState, opening, first_frame, hear, waits}
 use Rattle.scene_members.specs.declared.mode.SceneMode.TheVariants.{Driven}
 use Rattle.scenario_json.specs.declared.fault.SceneFault.{SceneFault}
 use Rattle.scenario_json.specs.Scene.{Scene, scene_of}
@@ -43,22 +47,31 @@ beginning_of bytes = beginning_at (length bytes) (divided bytes)
 
 -- ---- the frames of a scenario
 
+-- the codes that the compiler makes of programs
+abbrev pub codes_from : Sources → Codes
+codes_from sources = map (λ (source : ℕ × Form). (source.0, code_of source.1)) sources
+
 -- the session of a scenario's flows before the first frame
-abbrev pub begun : Scene → SessionParts
-begun scene = opening (planned_cases 0 scene.cases)
+abbrev pub begun : Scene → SessionState
+begun scene = opening (codes_from scene.programs) (planned_cases 0 scene.cases)
 
--- the frame that begins the first flow, if there is one
-abbrev pub first_written : Scene → List ℕ
-first_written scene = answer_bytes (first_frame (begun scene))
+-- what is written for frames, if this is written before the first one is read
+abbrev pub beginning_with : {S : Type 0} → List ℕ → Answering S → Answering S
+beginning_with first a = record a { written = λ bytes. first ++ a.written bytes }
 
--- the answers to the frames from a place of the input on, how the input ends, and the session then
-abbrev pub driving : Scene → ℕ → Answering SessionParts
-driving scene place = answering (hear (source_view scene.programs)) waits most_audit_bytes place (begun scene)
+-- a session's first frame and its answers to the frames from a place of the input on, how the input ends, and the
+-- session then
+abbrev pub driven_by : SessionState → ℕ → Answering SessionState
+driven_by session place =
+    beginning_with (answer_bytes (first_frame session)) (answering hear waits most_audit_bytes place session)
+
+abbrev pub driving : Scene → ℕ → Answering SessionState
+driving scene place = driven_by (begun scene) place
 
 -- ---- what is written, and what is refused
 
 abbrev pub written_in : Beginning → List ℕ
-written_in (divided_at scene place frames) = first_written scene ++ (driving scene place).written frames
+written_in (divided_at scene place frames) = (driving scene place).written frames
 written_in _ = []
 
 -- what is written for the bytes that were taken of an input
@@ -92,9 +105,9 @@ abbrev pub IsOpenDrive : List ℕ → Type 0
 IsOpenDrive bytes = IsOpenAt bytes (beginning_of bytes)
 
 -- the flows of an input at their end
-abbrev pub flows_in : Beginning → List FlowState
+abbrev pub flows_in : Beginning → List DrivenState
 flows_in (divided_at scene place frames) = ((driving scene place).state frames).ended
 flows_in _ = []
 
-abbrev pub driven_flows : List ℕ → List FlowState
+abbrev pub driven_flows : List ℕ → List DrivenState
 driven_flows bytes = flows_in (beginning_of bytes)

@@ -34,3 +34,4 @@ pub mod Attempts
 pub mod Endings
 pub mod FeedEndings
 pub mod DriveEnds
+pub mod DriveTexts

@@ -1,17 +1,23 @@
 //! The modes whose work is done by their caller alone, and the ends without words.
 
+ghost use Rattle.std.specs.Prelude.{◌≤◌};
+ghost use Rattle.feed_core.specs.FeedEnds.{stream};
 ghost use Rattle.ccp_run.specs.Complete.{DoesTask};
+ghost use Rattle.ccp_run.specs.DriveEnds.{AllowsDrive, IsDriveEnd};
 ghost use Rattle.ccp_run.specs.Endings.{Ends};
 ghost use Rattle.ccp_run.specs.Modes.{Task};
 ghost use Rattle.ccp_run.specs.Statuses.{memory_line, words_line};
 ghost use Rattle.ccp_run.specs.Streams.{stream_change};
 
+use crate::drive_end::DriveEnd;
 use crate::ending::end_without;
+use crate::modes::drive::drive_frames;
 use crate::modes::run_alone;
 use crate::outcome::Outcome;
 use crate::status::{MEMORY_LINE, Status, WORDS_LINE};
 use ccp_base::{Sink, Source};
 use ccp_words::Alone;
+use feed_core::Duplex;
 use std::alloc::Global;
 
 /// Does the work of a mode: in `feed` it answers the frames of the source as they come, in whatever pieces; else it
@@ -30,6 +36,25 @@ pub fn alone<S: Source, K: Sink, E: Sink>(
         (stream_change E.written E.faults errors.old errors.new) (K.is_finished sink.new) result }
 {
     run_alone(alloc, mode, source, sink, errors)
+}
+
+/// Drives the flows of a scenario by the frames below it, which an agent at the other end sends: it writes and hands on
+/// what the flows tell the agent, as a function of the bytes, in whatever pieces these come. It reads only where `allowed`
+/// lets it: once all that is to be written for what it took is handed on, so that an agent can wait for an answer before
+/// it sends more.
+pub fn drive<D: Duplex>(alloc: Global, duplex: &mut D) -> DriveEnd
+    requires allowed { AllowsDrive D.remaining D.written D.is_finished D.Follows D.MayRead duplex.old }
+    ensures follows { D.Follows duplex.old duplex.new }
+    ensures reads { D.read_faults duplex.old ≤ D.read_faults duplex.new }
+    ensures writes { D.write_faults duplex.old ≤ D.write_faults duplex.new }
+    ensures end { IsDriveEnd
+        (stream (D.remaining duplex.old) (D.remaining duplex.new)
+        (D.read_faults duplex.old) (D.read_faults duplex.new))
+        (stream (D.written duplex.old) (D.written duplex.new)
+        (D.write_faults duplex.old) (D.write_faults duplex.new))
+        (D.is_finished duplex.new) result }
+{
+    drive_frames(alloc, duplex)
 }
 
 /// Ends if the words aren't text: reports that they are refused.

@@ -2,6 +2,7 @@
 #![tactic(auto)]
 
 pub mod calls;
+mod drive_end;
 mod ending;
 mod laws;
 mod modes;
@@ -13,8 +14,10 @@ mod scene;
 mod status;
 mod stop;
 mod tool;
+mod unheard;
 
-pub use ccp_words::{Alone, ToolMode};
+pub use ccp_words::{Alone, DriveText, ToolMode};
+pub use drive_end::DriveEnd;
 pub use feed_core::{Epoch, Feed, FeedEnd, Flow};
 pub use laws::{
     acks_read_back_law, input_law, shared_timeline_rows_law, timeline_audited_law, timeline_row_law,

@@ -5,6 +5,8 @@ mod audit;
 mod campaign;
 mod check;
 mod common;
+pub mod drive;
+mod drive_text;
 mod feed;
 mod fold;
 mod live;
@@ -31,6 +33,8 @@ use campaign::read_campaign;
 use ccp_base::{Gate, Sink, Source, Workers};
 use ccp_words::{Alone, Asked, ToolMode};
 use check::read_check;
+use drive::run_drive;
+use drive_text::read_drive;
 use feed::run_feed;
 use fold::read_fold;
 use live::read_live;
@@ -63,6 +67,7 @@ pub fn run_alone<S: Source, K: Sink, E: Sink>(
         Alone::Check => end(alloc, read_check(alloc, source), sink, errors),
         Alone::Fold => end(alloc, read_fold(alloc, source), sink, errors),
         Alone::Audit => end(alloc, read_audit(alloc, source), sink, errors),
+        Alone::Drive => run_drive(alloc, source, sink, errors),
     }
 }
 
@@ -123,6 +128,10 @@ pub fn run_asked<R: Threads + Wait + Sync, S: Source, K: Sink, E: Sink, G: Gate 
         }
         ToolMode::SharedAcks => {
             let made = read_shared_acks(rt, alloc, workers, source, gate);
+            end(alloc, made, sink, errors)
+        }
+        ToolMode::Driven(shown) => {
+            let made = read_drive(alloc, shown, wire, source);
             end(alloc, made, sink, errors)
         }
     }

@@ -15,7 +15,7 @@ pub struct ModeOutput {
     /// In `live` and `timeline` a book of each flow, in order; else none.
     pub books: Books,
     /// In `check` and `fold` the program with its code, under the number 0; in `live`, `campaign`, `soak`, `timeline`,
-    /// `acks`, `shared-timeline` and `shared-acks` all programs of the scenario; else none.
+    /// `acks`, `shared-timeline`, `shared-acks` and the texts of driven flows all programs of the scenario; else none.
     pub programs: Builts,
     /// In `fold` how many instructions the program's code ran, one that faulted included; else 0.
     pub ran: u64,

@@ -11,16 +11,16 @@ use std::alloc::Global;
 /// How long an input may be.
 #[derive(Clone, Copy)]
 pub enum Limit {
-    /// 1,048,576 bytes, in every mode but `audit`, and before the separator there.
+    /// 1,048,576 bytes, in every mode but `audit` and those of driven flows, and before the separator there.
     Input,
-    /// 67,108,864 bytes, for the whole input of `audit`.
+    /// 67,108,864 bytes, for the whole input of `audit` and of driven flows.
     Audit,
 }
 
-/// The line that reports an input past the limit of every mode but `audit`.
+/// The line that reports an input past the shorter limit.
 const INPUT_LINE: &[u8] = b"ccp: input refused: more than 1048576 bytes\n";
 
-/// The line that reports an input past the limit of `audit`.
+/// The line that reports an input past the longer limit.
 const AUDIT_LINE: &[u8] = b"ccp: input refused: more than 67108864 bytes\n";
 
 impl Limit {

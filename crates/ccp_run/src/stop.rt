@@ -1,6 +1,7 @@
 //! Why a mode has no output: a refusal, a failed read, or no memory.
-use crate::refusal::Refusal;
+use crate::refusal::{Limit, Refusal};
 use ccp_base::NoMemory;
+use driven_flow::FrontFault;
 
 /// Why a mode has no output.
 #[derive(Drop)]
@@ -18,5 +19,21 @@ impl From<NoMemory> for Stop {
 
     fn from(_: NoMemory) -> Stop {
         Stop::NoMemory
+    }
+}
+
+impl From<FrontFault> for Stop {
+    ghost use Rattle.std.specs.Prelude.{◌≡◌};
+    ghost use Rattle.ccp_run.specs.DriveEnds.{front_stop};
+
+    ghost from_gives = { λ fault stop. stop ≡ front_stop fault };
+
+    fn from(fault: FrontFault) -> Stop {
+        match fault {
+            FrontFault::TooLong => Stop::Refused(Refusal::TooLong(Limit::Input)),
+            FrontFault::NoSeparator => Stop::Refused(Refusal::NoSeparator),
+            FrontFault::ReadFailed => Stop::ReadFailed,
+            FrontFault::NoMemory => Stop::NoMemory,
+        }
     }
 }

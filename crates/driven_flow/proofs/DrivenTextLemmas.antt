@@ -18,12 +18,12 @@ use Rattle.driven_flow.specs.Driven.{Codes, DrivenState, Given, ReadsAlike, flow
 use Rattle.driven_flow.specs.DrivenAccounts.{account_by}
 use Rattle.driven_flow.specs.DrivenText.{driven_account_text, driven_part, given_lines, given_text}
 
-module _ (codes : Codes) (programs : List (ℕ × Built)) (case : DrivenCase) where
+module _ (read : Codes) (programs : List (ℕ × Built)) (case : DrivenCase) where
   abbrev texts : Sources
   texts = sources_of programs
 
   abbrev by_codes : Flow ℕ
-  by_codes = over_codes codes case
+  by_codes = over_codes read case
 
   abbrev by_sources : Flow Place
   by_sources = over_sources texts case

@@ -199,9 +199,12 @@ reading-stops source source' before now text rest text' rest' inside inside' cou
     stops NoSeparator none = absurd none
     stops ReadFailed none = absurd none
     stops NoMemory done = record {
-      bytes = text ++ rest;
+      front = text;
+      rest = rest;
       taken = r.taken;
       few = omega (arith, within, few, length-append text rest);
+      none = ap divided (sym (append-nil text)) ∙ r.goes [];
+      kept = few;
     }
 
 -- a fault that the loop returns

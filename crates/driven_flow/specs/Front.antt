@@ -90,11 +90,14 @@ pub record FailsToReadFront (source : Stream) : Type 0 where
   pub rose : Rose source.before source.now
   pub not_over : IsOpen bytes
 
--- out of memory: a front of the source was taken
+-- out of memory: a front without a line `---` was taken, and then a rest of at most a frame's bytes
 pub record LacksMemoryForFront (source : Stream) : Type 0 where
-  pub bytes : List ℕ
-  pub taken : Takes source.old source.new bytes
-  pub few : length bytes ≤ most_input_bytes + most_frame_bytes
+  pub front : List ℕ
+  pub rest : List ℕ
+  pub taken : Takes source.old source.new (front ++ rest)
+  pub few : length (front ++ rest) ≤ most_input_bytes + most_frame_bytes
+  pub none : divided front ≡ None
+  pub kept : length rest ≤ most_frame_bytes
 
 -- what each fault of the call says
 abbrev pub IsFrontFault : Stream → FrontFault → Type 0

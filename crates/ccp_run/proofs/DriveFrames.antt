@@ -1,0 +1,110 @@
+-- The frames of an input after a first frame that is written before any is read.
+use Rattle.std.proofs.Common.{◌≡◌, ◌⊎◌, inl, inr, ◌∙◌, ℕ, ◌+◌, ◌-◌, ◌<◌, ◌≤◌, Some, None, List, [], ◌++◌, length, take, rules, arith, ap, sym, subst, refl, append_assoc, append-nil, length-append}
+use Rattle.std.proofs.Math.Seq.{take-append-add}
+use Rattle.std.proofs.lemmas.List.{take-append-le}
+use Rattle.ccp_base.specs.Outside.{Known, Rose, Takes, Appends, AppendsPrefix, Appends-append}
+use Rattle.feed_core.specs.declared.ending.FeedEnd.{FeedEnd}
+use Rattle.feed_core.specs.declared.ending.FeedEnd.TheVariants as ends
+use Rattle.feed_core.specs.Answering.{Answering, after}
+use Rattle.feed_core.specs.FeedEnds.{Stream, stream, AreHandedOn, AnswersInput, AllowsAnswered, IsFed, StaysFinished, FeedFailsToWrite}
+use Rattle.ccp_run.specs.DriveInputs.{beginning_with}
+
+pub appends-nothing : (old new : Known) → new ≡ old → Appends old new []
+appends-nothing None new same = same
+appends-nothing (Some written) new same = same ∙ ap Some (sym (append-nil written))
+
+pub takes-nothing : (old new : Known) → new ≡ old → Takes old new []
+takes-nothing old None same = sym same
+takes-nothing old (Some left) same = sym same
+
+-- a count that rose late, or early
+pub rose-late : (before middle now : ℕ) → before ≤ middle → middle ≤ now → Rose middle now → Rose before now
+rose-late before middle now first grown rose = search rules
+
+pub rose-early : (before middle now : ℕ) → Rose before middle → middle ≤ now → Rose before now
+rose-early before middle now rose grown = search rules
+
+-- what was handed on, and then the rest
+pub both-handed : (first next : List ℕ) (was is : Type 0) → AreHandedOn first was → (was → is) → AreHandedOn next is → AreHandedOn (first ++ next) is
+both-handed first next was is handed stays (inr done) = inr done
+both-handed first next was is (inr done) stays (inl none) = inr (stays done)
+both-handed first next was is (inl nothing) stays (inl none) = inl (λ i. nothing i ++ none i)
+
+-- a front of what comes after the first bytes
+prefix-after : (old mid new : Known) (first next : List ℕ) → Appends old mid first → AppendsPrefix mid new next → AppendsPrefix old new (first ++ next)
+prefix-after old mid new first next wrote front = record {
+  count = length first + front.count;
+  within = let within = front.within in omega (arith, within, length-append first next);
+  appends = subst (Appends old new) (sym (take-append-add first next front.count)) (Appends-append old mid new first (take front.count next) wrote front.appends);
+}
+
+-- a front of the first bytes
+pub prefix-first : (old new : Known) (first next : List ℕ) → AppendsPrefix old new first → AppendsPrefix old new (first ++ next)
+prefix-first old new first next front = record {
+  count = front.count;
+  within = let within = front.within in omega (arith, within, length-append first next);
+  appends = subst (Appends old new) (sym (take-append-le front.count first next front.within)) front.appends;
+}
+
+module _ {S : Type 0} (a : Answering S) (first before : List ℕ) (Lacks : List ℕ → List ℕ → Type 0) (source : Stream) (old mid new : Known) (was middle now : ℕ) (was_finished is_finished : Type 0) (state : S)
+    (wrote : Appends old mid first) (handed : AreHandedOn first was_finished) (grown : was ≤ middle) (grows : middle ≤ now) where
+  answers-first : (bytes : List ℕ) → (was_finished → is_finished) → AnswersInput (after before a) source (stream mid new middle now) is_finished bytes
+      → AnswersInput (after before (beginning_with first a)) source (stream old new was now) is_finished bytes
+  answers-first bytes stays x = record {
+    taken = x.taken;
+    written = Appends-append old mid new first (a.written (before ++ bytes)) wrote x.written;
+    handed = both-handed first (a.written (before ++ bytes)) was_finished is_finished handed stays x.handed;
+  }
+
+  -- how the frames end after a first one
+  pub fed-first : (end : FeedEnd) → StaysFinished was_finished is_finished end → IsFed a before Lacks source (stream mid new middle now) is_finished state end
+      → IsFed (beginning_with first a) before Lacks source (stream old new was now) is_finished state end
+  fed-first ends.Whole stays (there, finished) =
+      (record { bytes = there.bytes; answered = answers-first there.bytes stays there.answered; at_end = there.at_end; within = there.within; end_is = there.end_is; state_is = there.state_is }, finished)
+  fed-first (ends.Bad field place) stays f =
+      record { bytes = f.bytes; answered = answers-first f.bytes stays f.answered; within = f.within; end_is = f.end_is; no_more = λ more. ap (λ w. first ++ w) (f.no_more more) }
+  fed-first (ends.Cut place) stays there =
+      record { bytes = there.bytes; answered = answers-first there.bytes stays there.answered; at_end = there.at_end; within = there.within; end_is = there.end_is; state_is = there.state_is }
+  fed-first ends.TooLong stays f =
+      record { bytes = f.bytes; answered = answers-first f.bytes stays f.answered; within = f.within; end_is = f.end_is; no_more = λ more. ap (λ w. first ++ w) (f.no_more more) }
+  fed-first ends.ReadFailed stays f =
+      record { bytes = f.bytes; answered = answers-first f.bytes stays f.answered; within = f.within; rose = f.rose; goes_on = f.goes_on }
+  fed-first ends.WriteFailed stays f =
+      record { bytes = f.bytes; taken = f.taken; within = f.within; rose = rose-late was middle now grown grows f.rose; front = prefix-after old mid new first (a.written (before ++ f.bytes)) wrote f.front }
+  fed-first ends.NoMemory stays f = record {
+    bytes = f.bytes;
+    front = f.front;
+    rest = f.rest;
+    later = f.later;
+    taken = f.taken;
+    parts = f.parts;
+    within = f.within;
+    written = Appends-append old mid new first (a.written f.front) wrote f.written;
+    handed = both-handed first (a.written f.front) was_finished is_finished handed stays f.handed;
+    begins = ap (λ w. first ++ w) f.begins ∙ sym (append_assoc first (a.written f.front) f.later);
+    kept = f.kept;
+    cause = f.cause;
+  }
+
+-- the first frame can't be written
+pub first-fails : {S : Type 0} (a : Answering S) (first before : List ℕ) (source source' : Known) (rb rn : ℕ) (old new : Known) (wb wn : ℕ) → source' ≡ source → Rose wb wn → AppendsPrefix old new first
+    → FeedFailsToWrite (after before (beginning_with first a)) (stream source source' rb rn) (stream old new wb wn)
+first-fails a first before source source' rb rn old new wb wn same rose front = record {
+  bytes = [];
+  taken = takes-nothing source source' same;
+  within = omega arith;
+  rose = rose;
+  front = prefix-first old new first (a.written (before ++ [])) front;
+}
+
+-- where a read is allowed after a first frame
+pub allowed-after : {S D : Type 0} (a : Answering S) (first before : List ℕ) (remaining written : D → Known) (is_finished : D → Type 0) (Follows : D → D → Type 0) (MayRead : D → Type 0) (old mid : D)
+    → ((first middle last : D) → Follows first middle → Follows middle last → Follows first last)
+    → AllowsAnswered (after before (beginning_with first a)) remaining written is_finished Follows MayRead old
+    → Follows old mid → remaining mid ≡ remaining old → Appends (written old) (written mid) first → AreHandedOn first (is_finished mid) → (is_finished old → is_finished mid)
+    → AllowsAnswered (after before a) remaining written is_finished Follows MayRead mid
+allowed-after a first before remaining written is_finished Follows MayRead old mid on allowed follows same wrote handed kept now taken goes takes appends done stays =
+    allowed now taken (on old mid now follows goes) (subst (λ k. Takes k (remaining now) taken) same takes)
+    (Appends-append (written old) (written mid) (written now) first (a.written (before ++ taken)) wrote appends)
+    (both-handed first (a.written (before ++ taken)) (is_finished mid) (is_finished now) handed stays done)
+    (λ was. stays (kept was))
