@@ -78,8 +78,8 @@ module _ {S : Type 0} (answer : AnswerRule S) where
           let r = rest (place + used) next (drop used bytes) in (
             r.0,
             ap (λ (f : Fed S). f.answers) (fed-read m place state bytes more message version used (decoded-reads bytes message version used e))
-            ∙ ap (λ xs. reply ++ xs) r.1
-            ∙ sym (append_assoc reply (fed answer n (place + used) next (drop used bytes)).answers r.0),
+                ∙ ap (λ xs. reply ++ xs) r.1
+                ∙ sym (append_assoc reply (fed answer n (place + used) next (drop used bytes)).answers r.0),
           )
       go rest (Err (More needed)) e = ((fed answer (suc m) place state (bytes ++ more)).answers, refl)
       go rest (Err (Bad field offset)) e = ((fed answer (suc m) place state (bytes ++ more)).answers, refl)
@@ -204,7 +204,7 @@ module _ {S : Type 0} (answer : AnswerRule S) where
     pub goes-on-as : (waits : S → Bool) → LeavesNothing here.tail → GoesOnAs (answering answer waits limit place state) (answering answer waits limit (place + length bytes) here.state) bytes more
     goes-on-as waits nothing =
         let whole = frames-whole nothing in
-        let long : nat_lt most (length (bytes ++ more)) ≡ nat_lt (limit - (place + length bytes)) (length more) = 
+        let long : nat_lt most (length (bytes ++ more)) ≡ nat_lt (limit - (place + length bytes)) (length more) =
         ap (nat_lt most) (length-append bytes more) ∙ as-far most (length bytes) (length more) within ∙ ap (λ n. nat_lt n (length more)) left_is in
         record {
           written = ap (λ (f : Fed S). f.answers) whole;
