@@ -24,6 +24,7 @@ mod AcksBackLemmas
 mod AlikeLemmas
 pub mod PlannedLemmas
 mod RowLaw
+mod DriveLawLemmas
 mod AuditedLemmas
 pub mod SharedLemmas
 pub mod SeriesLemmas

@@ -14,4 +14,5 @@ mod WorkedDriven
 pub mod SpanLemmas
 pub mod SessionLemmas
 pub mod SessionLawLemmas
+pub mod AfterEndLemmas
 mod WorkedSession

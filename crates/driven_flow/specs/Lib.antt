@@ -10,6 +10,7 @@ pub mod Front
 pub mod Session
 pub mod DrivenText
 pub mod SessionLaws
+pub mod AfterEnd
 -- those that only private contracts, invariants and proofs cite
 pub mod DrivenParts
 pub mod DrivenJournals

@@ -1,6 +1,7 @@
 //! A flow whose changes and updates come from outside: its link, its programs and its history, driven letter by letter.
 #![tactic(auto)]
 
+mod after_end;
 mod answer;
 mod case;
 mod driven;
@@ -18,6 +19,7 @@ mod session_laws;
 mod state;
 mod timeline;
 
+pub use after_end::after_end_law;
 pub use answer::Answer;
 pub use case::DrivenCase;
 pub use driven::DrivenFlow;

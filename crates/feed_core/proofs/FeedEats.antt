@@ -18,7 +18,7 @@ some-used bytes message version used b = (omega (arith, b.used_is, head-long ver
     head-long : (version : Version) (message : Message) → 0 < length (frame_bytes version message)
     head-long version message = omega arith
 
-with-with : {S : Type 0} (a b : List ℕ) (f : Fed S) → with_answers a (with_answers b f) ≡ with_answers (a ++ b) f
+pub with-with : {S : Type 0} (a b : List ℕ) (f : Fed S) → with_answers a (with_answers b f) ≡ with_answers (a ++ b) f
 with-with a b f = λ i. record { answers = sym (append_assoc a b f.answers) i; tail = f.tail; state = f.state }
 
 -- the frames from a whole one on

@@ -9,6 +9,7 @@ mod FeedKept
 mod FeedLemmas
 mod FeedSteps
 mod FrameEnds
+pub mod FrameLawLemmas
 mod RefusalLemmas
 mod RestLemmas
 mod StreamEnds
