@@ -28,5 +28,5 @@ pub use programs::{Programs, first_bad, is_known};
 pub use refusal::Refusal;
 pub use scene::driven_cases;
 pub use session::Session;
-pub use timeline::put_flow_part;
 pub use session_laws::{session_law, session_lift_law};
+pub use timeline::put_flow_part;

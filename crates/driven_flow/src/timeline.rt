@@ -91,11 +91,7 @@ fn put_tickets(
 }
 
 /// Appends the last line of a flow.
-fn put_last(
-    text: &mut Bytes,
-    programs: &[(u32, Built)],
-    flow: &DrivenFlow,
-) -> Result<(), NoMemory>
+fn put_last(text: &mut Bytes, programs: &[(u32, Built)], flow: &DrivenFlow) -> Result<(), NoMemory>
     ensures { OnOk result (text.new
         ≡ text.old ++ account_end_line (sources_of programs.now) (account_by programs.now flow.now)) }
 {
