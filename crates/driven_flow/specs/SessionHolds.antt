@@ -1,5 +1,5 @@
 -- What holds of a session between frames, and of a frame that was accepted.
-use Rattle.std.specs.Prelude.{◌≡◌, ℕ, ◌≤◌, true, is_some, Option, Some, None, unwrap_or, List}
+use Rattle.std.specs.Prelude.{◌≡◌, ℕ, ◌≤◌, true, is_some, Option, Some, None, unwrap_or}
 use Rattle.driven_flow.specs.Driven.{Codes}
 use Rattle.flow_core.specs.declared.letter.Letter.TheVariants.{C}
 use Rattle.driven_flow.specs.Driven.{Given, DrivenState, is_known_for, bad_in, MayMake, present_of, left_of}
