@@ -21,12 +21,12 @@ from __future__ import annotations
 from importlib import import_module
 from typing import TYPE_CHECKING, Any
 
+from .agents import Agent, Driven, load_agent, run
 from .errors import BadAnswer, Ended, FrameRefused, NotAsked, Silent
 from .messages import Answer, Change, Create, Fault, Refused, Report, Told, Update
 from .session import Session, with_programs
 
 if TYPE_CHECKING:
-    from .agents import Agent, Driven, load_agent, run
     from .env import Box, Env
 
 __all__ = [
@@ -53,11 +53,9 @@ __all__ = [
     "with_programs",
 ]
 
-# the module of each name that needs pandas or numpy, which is imported when the name is first used
-MODULES = {**dict.fromkeys(["Agent", "Driven", "load_agent", "run"], "agents"), **dict.fromkeys(["Box", "Env"], "env")}
-
 
 def __getattr__(name: str) -> Any:
-    if name in MODULES:
-        return getattr(import_module("." + MODULES[name], __name__), name)
+    # numpy, which the environment uses, is imported when it is
+    if name in ("Box", "Env"):
+        return getattr(import_module(".env", __name__), name)
     raise AttributeError("module %r has no attribute %r" % (__name__, name))

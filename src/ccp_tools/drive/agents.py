@@ -7,19 +7,20 @@ import inspect
 import sys
 from dataclasses import dataclass
 from pathlib import Path
-from typing import Any, Callable, Mapping, Optional, Union
+from typing import TYPE_CHECKING, Any, Callable, Mapping, Optional, Union
 
-import pandas as pd
-
-from .. import frames
 from .. import program as programs
 from ..errors import CcpError
 from ..files import read_bytes
-from ..frames import Timeline
 from ..scenario_files import scenario_of
 from .errors import BadAnswer
 from .messages import Answer, Change, Create, Fault, Report, Told
 from .session import GivenScenario, Session, scenario_bytes, with_programs
+
+if TYPE_CHECKING:
+    import pandas as pd
+
+    from ..frames import Timeline
 
 
 class Agent:
@@ -68,14 +69,20 @@ class Driven:
 
     def table(self) -> pd.DataFrame:
         """The rows of the flows, as ccp_tools.frames.read_table has them."""
+        from .. import frames
+
         return frames.read_table(self.text("drive-table"))
 
     def timeline(self) -> Timeline:
         """The reports, faults, epochs and ends of the flows, as ccp_tools.frames.read_timeline has them."""
+        from .. import frames
+
         return frames.read_timeline(self.text("drive-timeline"))
 
     def acks(self) -> pd.DataFrame:
         """The acknowledgements of the flows, as ccp_tools.frames.read_acks has them."""
+        from .. import frames
+
         return frames.read_acks(self.text("drive-acks"))
 
     def save(self, path: Union[str, Path]) -> None:
