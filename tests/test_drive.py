@@ -178,9 +178,9 @@ def test_answers_before_they_are_asked_for_are_kept(driver: Path) -> None:
 def test_half_a_frame(driver: Path) -> None:
     """The program waits for the other half; at the end the place is that of the frame's start."""
     with pytest.raises(drive.Ended, match="while flow 0 waited for an answer: ccp: input refused: frame cut at 335$"):
-        with session(driver, timeout=0.5) as run:
+        with session(driver, timeout=5) as run:
             run.send(wire.change(0, 3)[:9])
-            with pytest.raises(drive.Silent, match="nothing came from ccp drive within 0.5 s"):
+            with pytest.raises(drive.Silent, match="nothing came from ccp drive within 5 s"):
                 run.receive()
 
 
@@ -216,6 +216,10 @@ def test_refusals_are_named(driver: Path) -> None:
         with pytest.raises(drive.FrameRefused, match="the frame is one of flow 5, which doesn't wait") as refused:
             run.change("p")
         assert refused.value.flow == 5
+        run.receive()
+        run.send(wire.update(0, [(4, 4, 1), (3, 1, 1)]))
+        with pytest.raises(drive.FrameRefused, match="value 1 of the frame, counted from 0, is for a control variable"):
+            run.update()
         run.close()
 
 
@@ -361,10 +365,11 @@ def test_a_program_that_writes_what_it_never_writes(tmp_path: Path) -> None:
         (wire.update(0), "never writes"),
         (wire.measure(0, 9, 0, (0, 1), (2, 3, 4), []), "never writes"),
         (wire.fault(0, 3, 0, 0, (2, 65535), (0, 0)), "never writes"),
-        (b"", "ended while the session waited"),
+        (b"", "ended while the session waited|has closed its input"),
     ):
         wrong = tmp_path / "ccp"
-        wrong.write_text("#!/bin/sh\nprintf '%s'\ncat > /dev/null\n" % "".join("\\%03o" % one for one in data))
+        shown = "".join("\\%03o" % one for one in data)
+        wrong.write_text("#!/bin/sh\nprintf '%s'\n%s\n" % (shown, "cat > /dev/null" if data else ":"))
         wrong.chmod(0o755)
         with pytest.raises(CcpError, match=said):
             with session(wrong) as run:

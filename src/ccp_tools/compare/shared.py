@@ -21,7 +21,7 @@ from ..metrics import Link, Window
 from ..plots import Look
 from ..scenario_files import Scenario, write_scenario
 from ..tables import LIMITS
-from .cases import LEAST_US
+from .cases import LEAST_US, outside_of
 from .runs import Progress, shown_cases
 
 # how often the bottleneck is looked at
@@ -122,9 +122,13 @@ def converged(times: Sequence[float], acked: np.ndarray) -> float | None:
 def run_all(
     scenario: Scenario, windows: Mapping[str, Window], folder: Path, progress: Progress, path: Path
 ) -> List[Sharing]:
-    """Runs the senders together over each trace, and keeps scenario and table in the folder."""
+    """Runs the senders together over each trace, and keeps scenario and table in the folder. Agents outside aren't
+    among them: they drive a link alone."""
     made = []
-    for trace, numbers in shown_cases(scenario).items():
+    for trace, every in shown_cases(scenario).items():
+        numbers = [number for number in every if not outside_of(scenario["cases"][number])]
+        if not numbers:
+            continue
         until_us = windows[trace].until_us or LEAST_US
         one = scenario_of(scenario, trace, numbers, until_us)
         progress.say("shared: %s together over %s" % (metrics.counted(len(numbers), "flow"), trace))

@@ -21,7 +21,7 @@ from __future__ import annotations
 from importlib import import_module
 from typing import TYPE_CHECKING, Any
 
-from .agents import Agent, Driven, load_agent, run
+from .agents import Agent, Driven, load_agent, run, run_file
 from .errors import BadAnswer, Ended, FrameRefused, NotAsked, Silent
 from .messages import Answer, Change, Create, Fault, Refused, Report, Told, Update
 from .session import Session, with_programs
@@ -50,6 +50,7 @@ __all__ = [
     "Update",
     "load_agent",
     "run",
+    "run_file",
     "with_programs",
 ]
 

@@ -11,13 +11,12 @@ from __future__ import annotations
 
 import argparse
 import sys
-import traceback
 from typing import Sequence
 
 from ..arguments import Parser, add_ccp
 from ..errors import CcpError
 from ..files import read_bytes
-from .agents import Agent, Driven, load_agent, run
+from .agents import run_file
 
 TEXTS = {"table": "drive-table", "timeline": "drive-timeline", "acks": "drive-acks"}
 
@@ -34,23 +33,12 @@ def parser() -> argparse.ArgumentParser:
     return made
 
 
-def driven(asked: argparse.Namespace, agent: Agent) -> Driven:
-    """The run that is asked for. An error of the agent's own code is shown with its place."""
-    try:
-        return run(agent, read_bytes(asked.scenario), program=asked.ccp, record=asked.record, timeout=asked.timeout)
-    except (CcpError, KeyboardInterrupt):
-        raise
-    except Exception as error:
-        place = traceback.extract_tb(error.__traceback__)[-1]
-        what = (place.filename, place.lineno, type(error).__name__, error)
-        raise CcpError("the agent failed: %s:%s: %s: %s" % what) from error
-
-
 def main(words: Sequence[str]) -> int:
     """Runs the command, and returns its exit status."""
     try:
         asked = parser().parse_args(words)
-        made = driven(asked, load_agent(asked.agent))
+        options = {"program": asked.ccp, "record": asked.record, "timeout": asked.timeout}
+        made = run_file(asked.agent, read_bytes(asked.scenario), **options)
         sys.stdout.write(made.text(TEXTS[asked.shown]))
         return 0
     except CcpError as error:

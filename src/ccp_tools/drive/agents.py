@@ -5,6 +5,7 @@ import hashlib
 import importlib.util
 import inspect
 import sys
+import traceback
 from dataclasses import dataclass
 from pathlib import Path
 from typing import TYPE_CHECKING, Any, Callable, Mapping, Optional, Union
@@ -126,6 +127,20 @@ def with_programs_of(agent: Agent, scenario: GivenScenario) -> GivenScenario:
 
 
 # ---- agents in files
+
+
+def run_file(path: Union[str, Path], scenario: GivenScenario, **options: Any) -> Driven:
+    """A run of the agent of a Python file, as `run` has it. What the agent itself raises is a CcpError with its
+    place."""
+    agent = load_agent(path)
+    try:
+        return run(agent, scenario, **options)
+    except CcpError:
+        raise
+    except Exception as error:
+        place = traceback.extract_tb(error.__traceback__)[-1]
+        what = (place.filename, place.lineno, type(error).__name__, error)
+        raise CcpError("the agent failed: %s:%s: %s: %s" % what) from error
 
 
 def load_agent(path: Union[str, Path]) -> Agent:

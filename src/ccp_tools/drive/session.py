@@ -4,7 +4,7 @@ from __future__ import annotations
 import hashlib
 import json
 from pathlib import Path
-from typing import IO, Any, Dict, Iterator, List, Mapping, Optional, Sequence, Tuple, Union
+from typing import IO, Any, Dict, Iterator, List, Mapping, Optional, Union
 
 from ..errors import CcpError
 from ..files import read_bytes, reason_of
@@ -19,7 +19,6 @@ from .messages import (
     Report,
     Told,
     Update,
-    Value,
     change_frame,
     message_of,
     number_of,
@@ -100,9 +99,9 @@ class Session:
         # how many refusals of PROBE come before what is waited for, and whether the last answer had one behind it
         self._stale = 0
         self._is_probed = False
-        # the program that runs, and what the last answer asked for: a program or None, and values
+        # the program that runs, and the number of that which the last answer asked for
         self._running: Optional[Declared] = None
-        self._last: Tuple[Optional[int], List[Value]] = (None, [])
+        self._asked: Optional[int] = None
         self.names = Names.of(self._scenario)
         self.told: Optional[Told] = None
 
@@ -223,13 +222,11 @@ class Session:
         if isinstance(given, Change):
             number = number_of("program", self.names.number(given.program))
             program = self.names.program(number)
-            values = values_of(given, program)
-            frame = change_frame(flow, number, values)
-            self._last, self._running = (number, values), program
+            frame = change_frame(flow, number, values_of(given, program))
+            self._asked, self._running = number, program
         else:
-            values = values_of(given, self._running)
-            frame = update_frame(flow, values)
-            self._last = (None, values)
+            frame = update_frame(flow, values_of(given, self._running))
+            self._asked = None
         self._answer(flow, frame)
         try:
             self.told = self._next()
@@ -278,15 +275,11 @@ class Session:
 
     def _refusal(self, refused: Refused) -> FrameRefused:
         """The error of a refused answer."""
-        program, values = self._last
-        return FrameRefused(
-            cause(refused, program, values, self._running, self.names), refused.reason, refused.index, refused.flow
-        )
+        text = cause(refused, self._asked, self._running, self.names)
+        return FrameRefused(text, refused.reason, refused.index, refused.flow)
 
 
-def cause(
-    refused: Refused, program: Optional[int], values: Sequence[Value], running: Optional[Declared], names: Names
-) -> str:
+def cause(refused: Refused, program: Optional[int], running: Optional[Declared], names: Names) -> str:
     """Why a frame was refused, in words."""
     if refused.reason == OTHER_FLOW:
         return "the frame is one of flow %d, which doesn't wait for an answer" % refused.flow
@@ -299,10 +292,8 @@ def cause(
     if refused.reason == NO_REGISTER:
         of = running if program is None else names.program(program)
         name = "the program" if of is None else "the program %s" % of.name
-        number = values[refused.index][1] if refused.index < len(values) else -1
-        return "value %d of the answer is for control variable %d, which %s doesn't have" % (
+        return "value %d of the frame, counted from 0, is for a control variable that %s doesn't have" % (
             refused.index,
-            number,
             name,
         )
     return "the frame was refused"
