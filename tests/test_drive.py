@@ -12,7 +12,7 @@ from pathlib import Path
 from typing import Any, Dict, List
 
 import pytest
-from support import Ran, ran, require
+from support import REPOSITORY, Ran, ran, require
 
 require("pandas")
 from ccp_tools import drive  # noqa: E402
@@ -335,6 +335,10 @@ def test_a_program_that_is_killed_before_its_end(driver: Path) -> None:
 def test_scenarios_that_are_refused(driver: Path) -> None:
     """Also where the scenario is no JSON, or too long."""
     wrong = {
+        b'{"programs": {"\\ud800": 1}, "cases": [{}]}': "json",
+        json.dumps({**SCENARIO, "programs": ["p"]}).encode(): "wrong programs",
+        json.dumps({**SCENARIO, "programs": {"p": 7}}).encode(): "wrong programs.p",
+        json.dumps({**SCENARIO, "cases": 7}).encode(): "wrong cases",
         b"{": "json",
         b"[]": "wrong ",
         json.dumps({**SCENARIO, "version": 2}).encode(): "range version",
@@ -353,7 +357,7 @@ def test_a_program_that_knows_no_drive(tmp_path: Path) -> None:
     old = tmp_path / "ccp"
     old.write_text("#!/bin/sh\necho 'ccp: words refused' >&2\nexit 2\n", encoding="utf-8")
     old.chmod(0o755)
-    with pytest.raises(drive.Ended, match="ccp: words refused"):
+    with pytest.raises(drive.Ended, match=r"ccp: words refused \(it has no mode drive\)"):
         session(old).start()
     with pytest.raises(CcpError, match="no program at"):
         session(tmp_path / "none").start()
@@ -505,6 +509,17 @@ def test_the_command(driver: Path, agent_file: Path, tmp_path: Path) -> None:
     assert ran([driver, "drive-table"], record.read_bytes()).output == made.output
     again = command(driver, agent_file, "-", "--print", "timeline", given=scenario.read_text())
     assert again.output.startswith("flow 0 case=a agent=own\nepoch 0 program=3 at=0 cwnd=7000\n")
+
+
+def test_the_command_ends_with_its_reader(driver: Path, agent_file: Path, tmp_path: Path) -> None:
+    """Silently, where nobody reads what it prints."""
+    reading, writing = os.pipe()
+    os.close(reading)
+    words = [sys.executable, "-m", "ccp_tools.drive", agent_file, tmp_path / "scenario.json", "--ccp", driver]
+    env = {**os.environ, "PYTHONPATH": str(REPOSITORY / "src")}
+    made = subprocess.run(words, stdout=writing, stderr=subprocess.PIPE, env=env)
+    os.close(writing)
+    assert (made.returncode, made.stderr) == (141, b"")
 
 
 def test_the_command_names_what_is_wrong(driver: Path, agent_file: Path, tmp_path: Path) -> None:

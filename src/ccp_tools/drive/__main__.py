@@ -14,8 +14,10 @@ import sys
 from typing import Sequence
 
 from ..arguments import Parser, add_ccp
+from ..cli import leave_pipe
 from ..errors import CcpError
 from ..files import read_bytes
+from ..interrupts import Ended, caught_signals
 from .agents import run_file
 
 TEXTS = {"table": "drive-table", "timeline": "drive-timeline", "acks": "drive-acks"}
@@ -36,14 +38,26 @@ def parser() -> argparse.ArgumentParser:
 def main(words: Sequence[str]) -> int:
     """Runs the command, and returns its exit status."""
     try:
-        asked = parser().parse_args(words)
-        options = {"program": asked.ccp, "record": asked.record, "timeout": asked.timeout}
-        made = run_file(asked.agent, read_bytes(asked.scenario), **options)
-        sys.stdout.write(made.text(TEXTS[asked.shown]))
-        return 0
+        with caught_signals():
+            return run(parser().parse_args(words))
     except CcpError as error:
         print("drive: %s" % " ".join(str(error).split("\n")), file=sys.stderr)
         return error.status
+    except BrokenPipeError:
+        return leave_pipe()
+    except Ended as ended:
+        return ended.status
+    except KeyboardInterrupt:
+        return 130
+
+
+def run(asked: argparse.Namespace) -> int:
+    """Drives the flows, and prints the text that is asked for."""
+    options = {"program": asked.ccp, "record": asked.record, "timeout": asked.timeout}
+    made = run_file(asked.agent, read_bytes(asked.scenario), **options)
+    sys.stdout.write(made.text(TEXTS[asked.shown]))
+    sys.stdout.flush()
+    return 0
 
 
 if __name__ == "__main__":

@@ -5,6 +5,9 @@ import signal
 
 from ..errors import CcpError, Failed
 
+# the status of a program that doesn't know the word
+WORDS_REFUSED = 2
+
 
 class BadAnswer(CcpError):
     """An answer that can't be sent: a name that the scenario doesn't have, or a value that is no number of 64 bits."""
@@ -36,6 +39,7 @@ class Ended(Failed):
     def __init__(self, status: int, line: str, when: str) -> None:
         super().__init__(status, line)
         said = self.line or how_ended(status)
+        said += " (it has no mode drive)" if status == WORDS_REFUSED else ""
         self.args = ("%s: %s" % (when, said) if when else said,)
 
 

@@ -5,7 +5,6 @@ import json
 from dataclasses import dataclass
 from typing import Any, Dict, List, Mapping, Tuple
 
-from ..errors import CcpError
 from ..reference.flow import Programs
 from ..reference.syntax import Program
 from ..tables import BUILT_INS
@@ -37,9 +36,7 @@ class Names:
     def __init__(self, scenario: Mapping[str, Any]) -> None:
         cases = scenario.get("cases")
         self.cases: List[Any] = cases if isinstance(cases, list) else []
-        texts = scenario.get("programs", {})
-        known = Programs({"programs": texts if is_texts(texts) else {}})
-        self.programs = [declared(at, name, text) for at, (name, text) in enumerate(zip(names_of(known), known.texts))]
+        self.programs = programs_of(scenario.get("programs", {}))
         # a program of the scenario goes before a built-in one of its name; `reno.ss` is `reno_ss` as pages write it
         self.numbers: Dict[str, int] = {name.replace("_", ".", 1): at for at, name in enumerate(BUILT_INS)}
         self.numbers.update({one.name: one.number for one in self.programs})
@@ -75,20 +72,18 @@ class Names:
         return self.programs[number] if 0 <= number < len(self.programs) else None
 
 
-def names_of(known: Programs) -> List[str]:
-    """The names of programs by their numbers."""
-    return [*BUILT_INS, *known.names]
-
-
-def is_texts(value: Any) -> bool:
-    """Whether a value is an object of texts."""
-    return isinstance(value, dict) and all(isinstance(text, str) for text in value.values())
+def programs_of(texts: Any) -> List[Declared]:
+    """The programs of a scenario by their numbers, the built-in ones first; of what is no object of texts these
+    alone."""
+    try:
+        known = Programs({"programs": texts})
+        names = [*BUILT_INS, *known.names]
+        return [declared(number, name, text) for number, (name, text) in enumerate(zip(names, known.texts))]
+    except (AttributeError, TypeError, UnicodeError):
+        return programs_of({})
 
 
 def declared(number: int, name: str, text: str) -> Declared:
     """What the text of a program declares."""
-    try:
-        tree = Program.of(text)
-    except (UnicodeError, IndexError) as error:
-        raise CcpError("the program %s can't be read: %s" % (name, error)) from None
+    tree = Program.of(text)
     return Declared(number, name, text, tuple(tree.fields), tuple(tree.controls))
