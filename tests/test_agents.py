@@ -4,17 +4,19 @@ from __future__ import annotations
 import importlib.util
 import json
 import math
+import re
 import shutil
 import subprocess
 import sys
+from functools import partial
 from pathlib import Path
 from typing import Any, Dict, List
 
 import pytest
-from support import EXAMPLES, needs, ran, require
+from support import EXAMPLES, REPOSITORY, needs, ran, require
 
 require("pandas")
-from ccp_tools import drive, frames  # noqa: E402
+from ccp_tools import drive, frames, metrics  # noqa: E402
 
 AGENTS = EXAMPLES / "agents"
 SCENARIO = EXAMPLES / "drive.json"
@@ -34,6 +36,42 @@ def figures(driver: Path, name: str) -> List[Dict[str, float]]:
         lost = row["lost"] / (row["lost"] + row["acks"] - row["timeouts"])
         found.append({"mbps": 8 * row["acked"] / row["now"], "wait": wait, "lost": lost})
     return found
+
+
+# ---- the page
+
+
+PAGE = (REPOSITORY / "docs" / "drive.md").read_text(encoding="utf-8")
+
+
+@pytest.mark.parametrize("name", ["aimd", "copa", "bbr"])
+def test_figures_of_the_page(driver: Path, name: str) -> None:
+    """The row of an agent, by the figures that `ccp metrics` has."""
+    row = re.search(r"^\| `%s\.py`.*? \| (.*) \|$" % name, PAGE, re.MULTILINE)
+    assert row
+    made = drive.run(drive.load_agent(AGENTS / (name + ".py")), SCENARIO, program=driver, timeout=60)
+    acks = frames.acks_in(made.text("drive-acks"))
+    found = metrics.figures(json.loads(SCENARIO.read_text(encoding="utf-8")), acks=acks)
+    cells = [
+        "%.2f | %.1f | %.2f" % (one.throughput_mbps, one.queueing_mean_ms, 100 * one.loss_rate)
+        for one in found.itertuples()
+    ]
+    assert row[1] == " | ".join(cells)
+
+
+@pytest.mark.parametrize("first", ["with Session(", "env = Env("])
+def test_code_of_the_page(driver: Path, first: str, monkeypatch: pytest.MonkeyPatch, tmp_path: Path) -> None:
+    code = next(block for block in re.findall(r"```python\n(.*?)```", PAGE, re.DOTALL) if block.startswith(first))
+    monkeypatch.chdir(REPOSITORY)
+    names = {name: getattr(drive, name) for name in ("Change", "Report")}
+    names.update({name: partial(getattr(drive, name), program=driver) for name in ("Session", "Env")})
+    exec(code.replace('"run.drive"', repr(str(tmp_path / "run.drive"))), names)
+    if "env" in names:
+        assert len(names["observation"]) == 3 and not names["truncated"]
+        names["env"].close()
+
+
+# ---- what the agents do
 
 
 def test_the_scenario_has_the_program_of_the_agents() -> None:
