@@ -37,7 +37,7 @@ def session(driver: Path, scenario: Any = EXAMPLE["scenario"].encode(), **more: 
 
 
 def with_cases(count: int, **more: Any) -> Dict[str, Any]:
-    """The example's scenario with its case so often."""
+    """The example's scenario with its case this many times."""
     cases = [{**SCENARIO["cases"][0], "name": "c%d" % at, **more} for at in range(count)]
     return {**SCENARIO, "cases": cases}
 
@@ -46,20 +46,20 @@ def with_cases(count: int, **more: Any) -> Dict[str, Any]:
 
 
 def test_the_example(driver: Path, tmp_path: Path) -> None:
-    """What it tells, what it refuses, and the texts of its recording."""
+    """Its events, what it refuses, and the texts of its recording."""
     record = tmp_path / "run.drive"
     with session(driver, record=record) as run:
-        assert run.told == Create(0, "a", 4500, 1500)
+        assert run.event == Create(0, "a", 4500, 1500)
         with pytest.raises(drive.FrameRefused, match="an update came before the flow's first change") as refused:
             run.update()
         assert (refused.value.reason, refused.value.index, refused.value.flow) == (6, 0, 0)
         with pytest.raises(drive.FrameRefused, match=r"no program 7: .* p \(3\) \(reason 6, index 7\)"):
             run.change(7)
         first = run.change("p", cwnd=6000, gain=2)
-        assert first == Report(0, "a", "p", 0, 0, 2, 40000, 6000, 0, {"acked": 3000}) and first is run.told
+        assert first == Report(0, "a", "p", 0, 0, 2, 40000, 6000, 0, {"acked": 3000}) and first is run.event
         second = run.update()
         assert isinstance(second, Report) and (second.first, second.end, second["acked"]) == (2, 4, 3000)
-        assert run.update(cwnd=9000) is None and run.told is None
+        assert run.update(cwnd=9000) is None and run.event is None
         kept = run.recording
     assert record.read_bytes() == kept
     for mode in ("drive-table", "drive-timeline", "drive-acks"):
@@ -70,9 +70,9 @@ def test_a_run_as_a_loop(driver: Path) -> None:
     """Flows come one after another, each from its Create on."""
     seen: List[str] = []
     with session(driver, with_cases(3)) as run:
-        for told in run:
-            seen.append("%s %s" % (type(told).__name__, told.case))
-            if isinstance(told, Create):
+        for event in run:
+            seen.append("%s %s" % (type(event).__name__, event.case))
+            if isinstance(event, Create):
                 run.change(3)
             else:
                 run.answer(None)
@@ -92,18 +92,18 @@ def test_forms_of_a_scenario(driver: Path, tmp_path: Path, kind: str) -> None:
 
 def test_a_scenario_without_cases(driver: Path) -> None:
     with session(driver, {"version": 1, "traces": {}, "cases": []}) as run:
-        assert run.told is None and list(run) == []
+        assert run.event is None and list(run) == []
 
 
 def test_a_fault_has_its_place(driver: Path) -> None:
     scenario = {**SCENARIO, "programs": {"f": FAULTY}}
     with session(driver, scenario) as run:
-        told: Any = run.change("f")
-        while isinstance(told, Report):
-            told = run.update(left=3 if told.end == 2 else told.end % 2)
-        assert isinstance(told, Fault) and (told.kind, told.program, told.epoch) == ("Underflow", "f", 0)
-        assert told.place == "2:22" and told.cwnd == 4500 and told.case == "a"
-        while run.told is not None:
+        event: Any = run.change("f")
+        while isinstance(event, Report):
+            event = run.update(left=3 if event.end == 2 else event.end % 2)
+        assert isinstance(event, Fault) and (event.kind, event.program, event.epoch) == ("Underflow", "f", 0)
+        assert event.place == "2:22" and event.cwnd == 4500 and event.case == "a"
+        while run.event is not None:
             run.change("f", left=9)
 
 
@@ -111,9 +111,9 @@ def test_wide_programs_report_by_frames_of_the_second_version(driver: Path) -> N
     names = ["f%d" % at for at in range(40)]
     text = "(def (Report %s))(when true (:= Report.f39 7) (report))" % " ".join("(%s 1)" % name for name in names)
     with session(driver, {**SCENARIO, "programs": {"wide": text}}) as run:
-        told = run.change("wide")
-        assert isinstance(told, Report) and list(told.fields) == names and told["f39"] == 7 and told.get("x") == 0
-        while run.told is not None:
+        event = run.change("wide")
+        assert isinstance(event, Report) and list(event.fields) == names and event["f39"] == 7 and event.get("x") == 0
+        while run.event is not None:
             run.update()
 
 
@@ -136,15 +136,15 @@ def test_bad_answers_are_named(driver: Path) -> None:
             with pytest.raises(drive.BadAnswer, match=re.escape(text)):
                 answer(run)
         # nothing of them was sent
-        assert run.recording == before and isinstance(run.told, Create)
+        assert run.recording == before and isinstance(run.event, Create)
         run.change("reno.ss", cap=2**64 - 1)
-        while run.told is not None:
+        while run.event is not None:
             run.update()
 
 
 def test_answers_that_nobody_waits_for(driver: Path) -> None:
     with session(driver) as run:
-        while run.told is not None:
+        while run.event is not None:
             run.change("p")
         with pytest.raises(drive.NotAsked, match="the run is over"):
             run.update()
@@ -326,7 +326,7 @@ def test_a_program_that_is_killed(driver: Path, answers: int) -> None:
 def test_a_program_that_is_killed_before_its_end(driver: Path) -> None:
     with pytest.raises(drive.Ended, match="ccp drive was stopped by SIGTERM"):
         with session(driver) as run:
-            while run.told is not None:
+            while run.event is not None:
                 run.change("p")
             os.kill(run.pid, signal.SIGTERM)
             time.sleep(0.2)
@@ -403,9 +403,11 @@ class Grows(Agent):
 def test_an_agent_is_run(driver: Path, tmp_path: Path) -> None:
     """Its texts as frames of pandas, and the same again from the recording."""
     record = tmp_path / "run.drive"
-    told: List[Any] = []
-    made = drive.run(Grows(), with_cases(2, acks=20), program=driver, record=record, timeout=SOON, told=told.append)
-    assert made.recording == record.read_bytes() and len(told) == 42
+    events: List[Any] = []
+    made = drive.run(
+        Grows(), with_cases(2, acks=20), program=driver, record=record, timeout=SOON, on_event=events.append
+    )
+    assert made.recording == record.read_bytes() and len(events) == 42
     table, timeline, acks = made.table(), made.timeline(), made.acks()
     assert list(table["agent"]) == ["own", "own"] and list(table["reports"]) == [20, 20]
     # a case is held by the queue of ten packets
@@ -414,7 +416,7 @@ def test_an_agent_is_run(driver: Path, tmp_path: Path) -> None:
     assert list(timeline.reports["reply_window"][:2]) == [4500, 6000]
     assert len(acks) == 40 and acks["bytes_acked"].sum() == table["acked"].sum()
     again = ran([driver, "drive"], made.recording)
-    reports = [one for one in told if isinstance(one, Report)]
+    reports = [one for one in events if isinstance(one, Report)]
     assert again.status == 0 and again.output.encode("utf-8", "surrogateescape").count(b"\2\1\1\0") >= len(reports)
     made.save(tmp_path / "copy")
     assert (tmp_path / "copy").read_bytes() == made.recording and len(made.sha256) == 64
@@ -447,6 +449,8 @@ def test_agents_that_answer_wrongly(driver: Path) -> None:
         drive.run(Raises(), SCENARIO, program=driver)
     with pytest.raises(NotImplementedError, match="Agent has no on_create"):
         drive.run(Agent(), SCENARIO, program=driver)
+    with pytest.raises(drive.Ended, match="wrong programs"):
+        drive.run(Grows(), {**SCENARIO, "programs": 7}, program=driver)
     with pytest.raises(CcpError, match="the agent has a program grow, and the scenario has another one"):
         drive.run(Grows(), {**SCENARIO, "programs": {"grow": "(def)"}}, program=driver)
 

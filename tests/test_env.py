@@ -26,7 +26,7 @@ FAULTY = "(def (Report (volatile acked 0)) (left 2))\n(when true (:= left (- lef
 
 
 def scenario(count: int, acks: int = 20, text: str = PROGRAM) -> Dict[str, Any]:
-    """A scenario of so many cases with so many acknowledgements each."""
+    """A scenario of this many cases, each with this many acknowledgements."""
     case = {"trace": "t", "mss": 1500, "queue": 10, "delay_us": 20000, "timeout_us": 1000000, "acks": acks}
     cases = [{"name": "c%d" % at, **case} for at in range(count)]
     return {"version": 1, "programs": {"p": text}, "traces": {"t": "10\n"}, "cases": cases}

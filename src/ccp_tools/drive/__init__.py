@@ -23,7 +23,7 @@ from typing import TYPE_CHECKING, Any
 
 from .agents import Agent, Driven, load_agent, run, run_file
 from .errors import BadAnswer, Ended, FrameRefused, NotAsked, Silent
-from .messages import Answer, Change, Create, Fault, Refused, Report, Told, Update
+from .messages import Answer, Change, Create, Fault, Refused, Report, Event, Update
 from .session import Session, with_programs
 
 if TYPE_CHECKING:
@@ -46,7 +46,7 @@ __all__ = [
     "Report",
     "Session",
     "Silent",
-    "Told",
+    "Event",
     "Update",
     "load_agent",
     "run",

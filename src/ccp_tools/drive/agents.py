@@ -15,7 +15,7 @@ from ..errors import CcpError
 from ..files import read_bytes
 from ..scenario_files import scenario_of
 from .errors import BadAnswer
-from .messages import Answer, Change, Create, Fault, Report, Told
+from .messages import Answer, Change, Create, Fault, Report, Event
 from .session import GivenScenario, Session, scenario_bytes, with_programs
 
 if TYPE_CHECKING:
@@ -44,11 +44,11 @@ class Agent:
         window as it is. After any other answer it stays stopped."""
         return Change(fault.program)
 
-    def answer(self, told: Told) -> Answer:
+    def answer(self, event: Event) -> Answer:
         """The answer to what waits."""
-        if isinstance(told, Create):
-            return self.on_create(told)
-        return self.on_report(told) if isinstance(told, Report) else self.on_fault(told)
+        if isinstance(event, Create):
+            return self.on_create(event)
+        return self.on_report(event) if isinstance(event, Report) else self.on_fault(event)
 
 
 @dataclass(frozen=True)
@@ -98,14 +98,14 @@ def run(
     program: Union[str, Path, None] = None,
     record: Union[str, Path, None] = None,
     timeout: Optional[float] = None,
-    told: Callable[[Told], None] = lambda told: None,
+    on_event: Callable[[Event], None] = lambda event: None,
 ) -> Driven:
-    """Drives the flows of a scenario by an agent, to their ends. `told` is called with each thing that flows tell, and
-    the rest is as in Session. Errors: those of Session, and what the agent raises."""
+    """Drives the flows of a scenario by an agent, to their ends. `on_event` is called with each event, and the rest is
+    as in Session. Errors: those of Session, and what the agent raises."""
     text = with_programs_of(agent, scenario)
     with Session(text, program=program, record=record, timeout=timeout) as session:
         for one in session:
-            told(one)
+            on_event(one)
             given = agent.answer(one)
             if isinstance(one, Create) and not isinstance(given, Change):
                 raise BadAnswer("on_create gave %r: the first answer of a flow is a Change" % (given,))

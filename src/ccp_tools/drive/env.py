@@ -10,7 +10,7 @@ import numpy as np
 
 from ..errors import CcpError
 from .agents import Driven
-from .messages import MOST, Change, Create, Fault, Report, Told, Update
+from .messages import MOST, Change, Create, Fault, Report, Event, Update
 from .session import GivenScenario, Session, scenario_bytes
 
 # what an observation may have beside the fields of the program
@@ -101,29 +101,29 @@ class Env:
     def reset(self, *, seed: Optional[int] = None, options: Optional[Info] = None) -> Tuple[np.ndarray, Info]:
         """Begins the next episode, and returns its first observation. An episode that isn't over is run to its end
         first, with the answer "nothing". A run has no chance in it, so `seed` and `options` change nothing."""
-        told, begun = self._between(), 0
-        while not isinstance(told, Report):
-            if isinstance(told, Create):
-                self._create, self._report, self._faults = told, None, 0
-                told = self._answered(self._begun(told))
+        event, begun = self._between(), 0
+        while not isinstance(event, Report):
+            if isinstance(event, Create):
+                self._create, self._report, self._faults = event, None, 0
+                event = self._answered(self._begun(event))
             else:
                 begun += 1
                 if begun > 1:
                     raise CcpError("no flow of the scenario has made a report, so there is no episode")
-                told = self._begun_session()
-        return self._seen(told), self._info()
+                event = self._begun_session()
+        return self._seen(event), self._info()
 
     def step(self, action: Sequence[float]) -> Tuple[np.ndarray, float, bool, bool, Info]:
         """Answers the last report by an action, and goes on to the next one."""
         before = self._report
         if before is None or self._session is None:
             raise CcpError("no episode is under way: env.reset() begins one")
-        told = self._answered(Update(**self._values(action)))
-        if not isinstance(told, Report):
+        event = self._answered(Update(**self._values(action)))
+        if not isinstance(event, Report):
             self._report = None
             return self._observation, 0.0, False, True, self._info(before)
-        observation = self._seen(told)
-        return observation, float(self._reward(told, before)), False, False, self._info()
+        observation = self._seen(event)
+        return observation, float(self._reward(event, before)), False, False, self._info()
 
     def close(self) -> None:
         """Ends the program. The recording of a run that isn't over isn't kept."""
@@ -144,36 +144,36 @@ class Env:
         """The first change of a flow."""
         return self._start if isinstance(self._start, Change) else self._start(create)
 
-    def _begun_session(self) -> Optional[Told]:
+    def _begun_session(self) -> Optional[Event]:
         """Begins the scenario anew."""
         path = self._record and self._record / ("run-%d.drive" % len(self.recordings))
         self._session = Session(self._scenario, program=self._program, record=path, timeout=self._timeout)
         return self._session.start()
 
-    def _between(self) -> Optional[Told]:
+    def _between(self) -> Optional[Event]:
         """What waits once the present episode is over: the Create of the next one, or None."""
         if self._session is None:
             return None
-        told = self._session.told
-        while told is not None and not isinstance(told, Create):
-            told = self._answered(None)
-        return told
+        event = self._session.event
+        while event is not None and not isinstance(event, Create):
+            event = self._answered(None)
+        return event
 
-    def _answered(self, answer: Union[Change, Update, None]) -> Optional[Told]:
+    def _answered(self, answer: Union[Change, Update, None]) -> Optional[Event]:
         """Answers, and returns the next thing that isn't a fault: a fault is answered by the first change, with the
         window as it is. At the end of a run its recording is kept."""
         assert self._session is not None
-        told = self._session.answer(answer)
-        while isinstance(told, Fault):
+        event = self._session.answer(answer)
+        while isinstance(event, Fault):
             self._faults += 1
             assert self._create is not None
             again = self._begun(self._create)
-            told = self._session.answer(Change(again.program, cwnd=told.cwnd, rate=again.rate, **again.controls))
-        if told is None:
+            event = self._session.answer(Change(again.program, cwnd=event.cwnd, rate=again.rate, **again.controls))
+        if event is None:
             self._session.finish()
             self.recordings.append(Driven(self._session.recording, self._program))
             self._session = None
-        return told
+        return event
 
     def _values(self, action: Sequence[float]) -> Dict[str, int]:
         """The values of an action, held between their bounds."""

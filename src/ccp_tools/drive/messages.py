@@ -1,4 +1,4 @@
-"""What flows tell an agent, and what it answers, as objects; and the frames that stand for them (docs/frames.md)."""
+"""The events of flows and the answers of agents as objects, and the frames that stand for them (docs/frames.md)."""
 from __future__ import annotations
 
 import operator
@@ -82,7 +82,7 @@ class Refused:
 
 
 # what waits for an answer
-Told = Union[Create, Report, Fault]
+Event = Union[Create, Report, Fault]
 
 
 @dataclass(init=False)
@@ -177,7 +177,7 @@ def values_bytes(values: Sequence[Value]) -> bytes:
 
 @lru_cache(maxsize=None)
 def measure_form(version: int, count: int) -> struct.Struct:
-    """The body of a Measure with so many fields."""
+    """The body of a Measure with this many fields."""
     return struct.Struct(("<IIIIQQQ%dQ" if version == 1 else "<IIQQQQQ%dQ") % count)
 
 
@@ -186,7 +186,7 @@ CREATE_FORM = struct.Struct("<QI")
 REFUSED_FORM = struct.Struct("<BI")
 
 
-def message_of(frame: bytes, names: Names) -> Union[Told, Refused]:
+def message_of(frame: bytes, names: Names) -> Union[Event, Refused]:
     """What a whole frame of the program says; one that it doesn't write is a CcpError."""
     kind, version, count, _, _, _, flow, _ = HEAD.unpack_from(frame)
     try:

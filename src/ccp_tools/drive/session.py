@@ -1,4 +1,4 @@
-"""A session of an agent with `ccp drive`: what flows tell it, what it answers, and the recording of both."""
+"""A session of an agent with `ccp drive`: the events of its flows, what it answers, and the recording of that."""
 from __future__ import annotations
 
 import hashlib
@@ -17,7 +17,7 @@ from .messages import (
     Fault,
     Refused,
     Report,
-    Told,
+    Event,
     Update,
     change_frame,
     message_of,
@@ -53,7 +53,11 @@ def scenario_bytes(scenario: GivenScenario) -> bytes:
 
 def with_programs(scenario: Mapping[str, Any], programs: Mapping[str, str]) -> Dict[str, Any]:
     """A scenario with programs of its agent. A name that it has for another text is a CcpError."""
-    known = dict(scenario.get("programs", {}))
+    given = scenario.get("programs", {})
+    if not isinstance(given, Mapping):
+        # the program refuses it
+        return dict(scenario)
+    known = dict(given)
     for name, text in programs.items():
         if known.get(name, text) != text:
             raise CcpError("the agent has a program %s, and the scenario has another one of this name" % name)
@@ -64,14 +68,14 @@ def with_programs(scenario: Mapping[str, Any], programs: Mapping[str, str]) -> D
 class Session:
     """`ccp drive` over a scenario, and an agent's side of it.
 
-    `told` is what waits for an answer: a Create, a Report or a Fault, and None once the run is over. `change` and
-    `update` answer it, and return what comes next; so does `answer`, which takes an answer as an object. A session is
-    also what its flows tell, one thing after another, each of which is answered before the next:
+    `event` is what waits for an answer: a Create, a Report or a Fault, and None once the run is over. `change` and
+    `update` answer it, and return the next one; so does `answer`, which takes an answer as an object. A loop over a
+    session has its events, each of which is answered before the next:
 
         with Session("scenario.json", record="run.drive") as session:
-            for told in session:
-                if isinstance(told, Report):
-                    session.update(cwnd=2 * told["acked"])
+            for event in session:
+                if isinstance(event, Report):
+                    session.update(cwnd=2 * event["acked"])
                 else:
                     session.change("p", cwnd=14480, gain=2)
 
@@ -99,11 +103,11 @@ class Session:
         # how many refusals of PROBE come before what is waited for, and whether the last answer had one behind it
         self._stale = 0
         self._is_probed = False
-        # the program that runs, and the number of that which the last answer asked for
+        # the program that runs, and the number of the one that the last answer asked for
         self._running: Optional[Declared] = None
         self._asked: Optional[int] = None
         self.names = Names.of(self._scenario)
-        self.told: Optional[Told] = None
+        self.event: Optional[Event] = None
 
     # ---- begin and end
 
@@ -117,7 +121,7 @@ class Session:
         else:
             self.close()
 
-    def start(self) -> Optional[Told]:
+    def start(self) -> Optional[Event]:
         """Begins the run, and returns the Create of its first flow; None where the scenario has no case."""
         if self._pipes is not None:
             raise CcpError("the session has begun already")
@@ -133,11 +137,11 @@ class Session:
                 # a scenario without cases, or one that is refused
                 self._send(PROBE)
                 self._is_probed = True
-            self.told = self._next()
+            self.event = self._next()
         except BaseException:
             self.close()
             raise
-        return self.told
+        return self.event
 
     def finish(self) -> None:
         """Ends the frames, and waits for the program. Where a flow still waits for an answer, or where the program has
@@ -150,14 +154,14 @@ class Session:
             pipes.rest()
             status = pipes.status()
             if status:
-                when = "the session ended while flow %d waited for an answer" % self.told.flow if self.told else ""
+                when = "the session ended while flow %d waited for an answer" % self.event.flow if self.event else ""
                 raise pipes.ended(when)
         finally:
             self.close()
 
     def close(self) -> None:
         """Ends the program where it runs, and closes the recording."""
-        self.told = None
+        self.event = None
         if self._pipes is not None:
             self._pipes.close()
         if self._file is not None:
@@ -174,18 +178,18 @@ class Session:
             raise CcpError("the session hasn't begun: `with Session(..) as session`, or session.start()")
         return self._pipes
 
-    # ---- what flows tell
+    # ---- events
 
-    def __iter__(self) -> Iterator[Told]:
+    def __iter__(self) -> Iterator[Event]:
         """What waits for an answer, one after another, up to the end of the run."""
-        while self.told is not None:
-            told = self.told
-            yield told
-            if self.told is told:
-                raise NotAsked('%s isn\'t answered: session.update() is the answer "nothing"' % shown(told))
+        while self.event is not None:
+            event = self.event
+            yield event
+            if self.event is event:
+                raise NotAsked('%s isn\'t answered: session.update() is the answer "nothing"' % shown(event))
 
-    def _next(self) -> Optional[Told]:
-        """What comes next: what a flow tells, or None at the end of the run."""
+    def _next(self) -> Optional[Event]:
+        """The next event, or None at the end of the run."""
         message = self.receive()
         if isinstance(message, Refused) and message.flow == NO_FLOW:
             return None
@@ -206,19 +210,19 @@ class Session:
         cwnd: Optional[int] = None,
         rate: Optional[int] = None,
         **controls: int,
-    ) -> Optional[Told]:
+    ) -> Optional[Event]:
         """Answers by a change to a program, and returns what comes next, as Change has it."""
         return self.answer(Change(program, cwnd=cwnd, rate=rate, **controls))
 
-    def update(self, /, *, cwnd: Optional[int] = None, rate: Optional[int] = None, **controls: int) -> Optional[Told]:
+    def update(self, /, *, cwnd: Optional[int] = None, rate: Optional[int] = None, **controls: int) -> Optional[Event]:
         """Answers by an update, and returns what comes next, as Update has it."""
         return self.answer(Update(cwnd=cwnd, rate=rate, **controls))
 
-    def answer(self, answer: Answer) -> Optional[Told]:
+    def answer(self, answer: Answer) -> Optional[Event]:
         """Answers what waits, and returns what comes next; None is the answer "nothing"."""
-        if self.told is None:
+        if self.event is None:
             raise NotAsked("no flow waits for an answer: the run is over, or hasn't begun")
-        flow, given, before = self.told.flow, Update() if answer is None else answer, self._running
+        flow, given, before = self.event.flow, Update() if answer is None else answer, self._running
         if isinstance(given, Change):
             number = number_of("program", self.names.number(given.program))
             program = self.names.program(number)
@@ -229,11 +233,11 @@ class Session:
             self._asked = None
         self._answer(flow, frame)
         try:
-            self.told = self._next()
+            self.event = self._next()
         except FrameRefused:
             self._running = before
             raise
-        return self.told
+        return self.event
 
     def _answer(self, flow: int, frame: bytes) -> None:
         """Sends an answer; behind one of the last flow an update that is refused, which marks the end of what comes."""
@@ -246,7 +250,7 @@ class Session:
         """Sends bytes of your own making, as they are: they needn't be frames. Read what comes by `receive`."""
         self._send(data)
 
-    def receive(self) -> Union[Told, Refused]:
+    def receive(self) -> Union[Event, Refused]:
         """The next message, also a Refused; the refusals of the session's own updates of NO_FLOW are left out."""
         while True:
             message = message_of(self._running_pipes().frame(), self.names)
@@ -299,9 +303,9 @@ def cause(refused: Refused, program: Optional[int], running: Optional[Declared],
     return "the frame was refused"
 
 
-def shown(told: Told) -> str:
+def shown(event: Event) -> str:
     """What waits, as a message names it."""
-    if isinstance(told, Report):
-        return "the report of flow %d on acknowledgements %d to %d" % (told.flow, told.first, told.end)
-    what = "fault at acknowledgement %d" % told.ack if isinstance(told, Fault) else "beginning"
-    return "the %s of flow %d" % (what, told.flow)
+    if isinstance(event, Report):
+        return "the report of flow %d on acknowledgements %d to %d" % (event.flow, event.first, event.end)
+    what = "fault at acknowledgement %d" % event.ack if isinstance(event, Fault) else "beginning"
+    return "the %s of flow %d" % (what, event.flow)

@@ -121,13 +121,13 @@ class DrivenFlow(BaseFlow):
             else:
                 state.rate = value
 
-    # ---- what it tells its agent
+    # ---- what it writes to its agent
 
     def create(self) -> bytes:
         """The Create of the flow."""
         return wire.create(self.number, self.state.cwnd, self.case["mss"])
 
-    def told(self) -> bytes:
+    def message(self) -> bytes:
         """The Measure or the Fault of the ticket that is out."""
         assert self.out is not None
         subject = self.out.subject
@@ -202,7 +202,7 @@ class Runs:
                 flow.ack()
             elif letter == "T":
                 flow.take()
-                self.written += flow.told()
+                self.written += flow.message()
                 answer = yield from self._applicable(flow)
             else:
                 assert answer is not None
@@ -357,7 +357,7 @@ def main(words: Sequence[str]) -> int:
     drive = Drive(check_of(asked.ccp), asked.mode == "drive-acks")
     try:
         return stream(asked.mode, drive)
-    except BrokenPipeError:
+    except OSError:
         return fail(5, STATUSES[5])
 
 
