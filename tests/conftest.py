@@ -42,6 +42,16 @@ def program_path(program: Path) -> Path:
     return program
 
 
+@pytest.fixture(scope="session", params=["stand-in", "program"])
+def driver(request: pytest.FixtureRequest, program: Path, tmp_path_factory: pytest.TempPathFactory) -> Path:
+    """What runs the modes of `drive`: the reference model, and the program itself where it has them."""
+    if request.param == "stand-in":
+        return support.stand_in(tmp_path_factory.mktemp("stand-in"))
+    if not support.has_mode("drive"):
+        pytest.skip("the program has no mode drive")
+    return program
+
+
 @pytest.fixture(scope="session")
 def repository() -> Path:
     """The top of the repository."""

@@ -3,6 +3,7 @@ from __future__ import annotations
 
 import importlib
 import os
+import shlex
 import stat
 import subprocess
 import sys
@@ -66,6 +67,13 @@ def ccp(*words: object, given: str | bytes | None = None) -> Ran:
 def has_mode(name: str) -> bool:
     """Whether the program has a mode; another one refuses the word."""
     return ccp(name).status != 2
+
+
+def stand_in(folder: Path) -> Path:
+    """A program like `ccp` in which the reference model runs the modes of `drive`; the others are the program's own."""
+    source, python, found = (shlex.quote(str(path)) for path in (REPOSITORY / "src", sys.executable, find_program()))
+    model = "PYTHONPATH=%s exec %s -m ccp_tools.reference.driven --ccp %s" % (source, python, found)
+    return script(folder, "ccp", 'case $1 in drive*) %s "$@" ;; esac\nexec %s "$@"\n' % (model, found), "#!/bin/sh\n")
 
 
 def table_text(rows: Iterable[Dict[str, Any]]) -> str:

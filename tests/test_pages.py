@@ -5,12 +5,15 @@ doesn't have, as a cluster, has a line `<!-- not run: REASON -->` above it."""
 from __future__ import annotations
 
 import re
+import shutil
 import sys
 from pathlib import Path
 from typing import Dict, List
 
 import pytest
 from support import REPOSITORY, needs, ran
+
+from ccp_tools.tables import MODES
 
 BLOCK = re.compile(r"^(<!-- not run: .+ -->\n)?```\w*\n(.*?)^```$", re.DOTALL | re.MULTILINE)
 # the most seconds of a block; alone on a machine none takes ten
@@ -24,9 +27,16 @@ def commands_of(page: Path) -> List[str]:
     for mark, block in BLOCK.findall(page.read_text(encoding="utf-8")):
         if re.search(r"^\$ ", block, re.MULTILINE):
             found += re.findall(r"^\$ (\./ccp .* --out \S+)$", block, re.MULTILINE)
-        elif "./ccp " in block and not mark:
+        elif "./ccp " in block and not mark and can_run(block):
             found.append(block)
     return [shortened(block) for block in found]
+
+
+def can_run(block: str) -> bool:
+    """Whether the tables have the modes of `drive` and a compiler of C is there, where a block uses them."""
+    uses_drive = re.search(r"\./ccp drive|examples/agents/", block) is not None
+    uses_compiler = re.search(r"^cc ", block, re.MULTILINE) is not None
+    return ("drive" in MODES or not uses_drive) and (shutil.which("cc") is not None or not uses_compiler)
 
 
 def shortened(block: str) -> str:

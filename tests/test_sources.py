@@ -25,8 +25,8 @@ LINK = list(range(2, 501, 2)) + list(range(504, 1001, 4))
 def test_the_files_are_those_of_their_script(tmp_path: Path) -> None:
     assert ran([DATA / "make", tmp_path]).status == 0
     for path in sorted(DATA.iterdir()):
-        # what the program printed of two flows isn't made by it, nor is what is packed
-        if path.name != "make" and path.stem != "two-flows" and path.suffix not in (".gz", ".xz"):
+        # runs of the program aren't made by it, nor is what is packed
+        if path.name != "make" and path.stem not in ("two-flows", "driven") and path.suffix not in (".gz", ".xz"):
             assert path.read_bytes() == (tmp_path / path.name).read_bytes(), path.name
 
 

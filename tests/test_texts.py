@@ -6,7 +6,7 @@ import re
 import pytest
 from support import EXAMPLES, REPOSITORY, script
 
-from ccp_tools import frames, program, scenario_files, texts, traces
+from ccp_tools import frames, program, scenario_files, table, texts, traces
 from ccp_tools.errors import BadText, CcpError, Failed, NoProgram
 
 
@@ -111,6 +111,35 @@ end acks=9 reports=1 held=2 faults=1 tail=7..9 stopped=yes cwnd=20 rate=0
         notice
     )
     assert flow.end.stopped and flow.end.first == 7 and flow.end.held == 2, str(flow.end)
+
+
+def test_replies_of_an_agent_outside():
+    whole = 2**64 - 1
+    expected = {
+        "update:cwnd=9000": texts.Reply("update", 9000, values=(("cwnd", 9000),)),
+        "update:rate=7,control63=1": texts.Reply("update", values=(("rate", 7), ("control63", 1))),
+        "change:3:": texts.Reply("change", program=3),
+        "change:15:cwnd=1,cwnd=2": texts.Reply("change", 2, 15, values=(("cwnd", 1), ("cwnd", 2))),
+        "change:0:control0=%d" % whole: texts.Reply("change", program=0, values=(("control0", whole),)),
+    }
+    end = "end acks=7 reports=1 held=0 faults=0 tail=7..7 stopped=no cwnd=0 rate=0\n"
+    line = "flow 0 case=a agent=own\nticket 0 fault epoch=0 ack=6 taken=7 answered=7 reply=%s\n" + end
+    for text, reply in expected.items():
+        ticket = texts.read_flows(line % text)[0].tickets[0]
+        assert ticket.reply == reply and table.reply_text(reply) == text
+    for text in ("update:", "update:cwnd", "update:cwnd=1,", "change:x:", "change:3:flow=1", "change:3:cwnd=-1"):
+        refused(texts.BadText, "reply", lambda text=text: texts.read_flows(line % text))
+    shown = "ticket 0 report program=3 epoch=0 span=0..1 taken=1 answered=1 reply=%s now=1 cwnd=2 rate=3 acked=4\n"
+    text = "flow 0 case=a agent=own\n" + shown % "change:3:rate=5,cwnd=6,control1=7" + end
+    reports = frames.read_timeline(text).reports
+    row = reports.iloc[0]
+    assert (row.reply, row.reply_program, row.reply_window, row.reply_rate, row.reply_control1) == (
+        "change",
+        3,
+        6,
+        5,
+        7,
+    )
 
 
 def test_an_absent_primitive_is_zero():

@@ -1,8 +1,9 @@
 """Reads what `ccp` prints into pandas frames.
 
-    read_acks, acks_in           the acknowledgements of `acks` and `shared-acks`
-    read_timeline, timeline_of   the reports, faults, epochs and ends of `timeline`, `shared-timeline` and `live`
-    read_table                   the rows of `campaign` and `shared`
+    read_acks, acks_in           the acknowledgements of `acks`, `shared-acks` and `drive-acks`
+    read_timeline, timeline_of   the reports, faults, epochs and ends of `timeline`, `shared-timeline`, `live` and
+                                 `drive-timeline`
+    read_table                   the rows of `campaign`, `shared` and `drive-table`
     read_shared                  the rows of `shared`, and its line `link`
     run_campaign, acks, timeline, figures   run the program on a scenario, and read what it prints
 
@@ -239,7 +240,8 @@ class Timeline:
     `reports`: `flow`, `case`, `agent`, `program`, `epoch`, `first`, `end` (acknowledgements `first` to `end`, without
     `end`), `taken`, `answered` (counts of acknowledgements), `now` (microseconds), `cwnd` (bytes), `rate` (bytes a
     second), `reply` (none, update or change), `reply_program`, `reply_window` (bytes), `reply_cap` (bytes), and
-    `field_NAME` for each field of a program, in the program's own unit.
+    `field_NAME` for each field of a program, in the program's own unit. Where an agent outside sets them, `reply_rate`
+    (bytes a second) and `reply_controlN`.
     `faults`: `flow`, `case`, `agent`, `epoch`, `ack` (its number from 0), `kind`, `place` (line:column).
     `epochs`: `flow`, `case`, `agent`, `number`, `program`, `at` (acknowledgements before it), `cwnd` (bytes).
     `ends`: `flow`, `case`, `agent`, `acks`, `reports`, `held`, `faults`, `epochs`, `first` (acknowledgements from it
@@ -294,6 +296,7 @@ def report_row(report: Any) -> Dict[str, Any]:
     if report.reply:
         made.update(reply=report.reply.kind, reply_program=report.reply.program)
         made.update(reply_window=report.reply.window, reply_cap=report.reply.cap)
+        made.update({"reply_" + name: value for name, value in report.reply.values if name != "cwnd"})
     return {**made, **{"field_" + name: value for name, value in report.fields.items()}}
 
 

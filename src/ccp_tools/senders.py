@@ -7,12 +7,14 @@ A sender is an agent, as `reno`, or an agent with programs of your own:
     LABEL=PROGRAM               the program in slow start and in congestion avoidance, with Reno as the agent
     [LABEL=]AGENT:PROGRAM       the same with this agent
     [LABEL=]AGENT:SLOW:AVOID    a program for each; the built-in one where a program is left out, as in reno::AVOID
+    [LABEL=]FILE.py             an agent outside, of a Python file (ccp_tools.drive), where a command accepts one
 
 A PROGRAM is a name that --portus NAME=FILE gives, or a file."""
 from __future__ import annotations
 
 import argparse
 from dataclasses import dataclass, replace
+from functools import partial
 from pathlib import Path
 from typing import Dict, List, Sequence, Tuple
 
@@ -26,15 +28,22 @@ PROGRAMS = Path(__file__).resolve().parent / "like_linux"
 FORMS = "AGENT, linux-reno, linux-cubic, LABEL=PROGRAM, [LABEL=]AGENT:PROGRAM and [LABEL=]AGENT:SLOW-START:AVOIDANCE"
 
 
+# what texts and scenarios call an agent outside, and how its file's name ends
+OWN = "own"
+OUTSIDE = ".py"
+
+
 @dataclass(frozen=True)
 class Sender:
     """A sender: its label, its agent, and its programs for slow start and for congestion avoidance. A program is a
-    name of --portus or a file's path, and None where the built-in one runs."""
+    name of --portus or a file's path, and None where the built-in one runs. `file` is that of an agent outside, whose
+    agent is OWN and which has no such program."""
 
     label: str
     agent: str
     slow: str | None = None
     avoid: str | None = None
+    file: str | None = None
 
     def programs(self) -> List[str]:
         """Its own programs, each once."""
@@ -56,7 +65,7 @@ LIKE_LINUX = {
 }
 
 
-def sender(text: str) -> Sender:
+def sender(text: str, accepts_outside: bool = False) -> Sender:
     """A parser of one sender."""
     label, is_labelled, rest = text.partition("=")
     if not is_labelled:
@@ -66,6 +75,11 @@ def sender(text: str) -> Sender:
         raise argparse.ArgumentTypeError(
             "%s: a label has 1 to 32 letters, digits, _, - and ., and isn't %s" % (shown(text), names)
         )
+    if rest.endswith(OUTSIDE):
+        if not accepts_outside:
+            text = "%s is an agent outside: `ccp compare` runs one, and `python3 -m ccp_tools.drive`" % shown(rest)
+            raise argparse.ArgumentTypeError(text)
+        return Sender(label or base_name(rest), OWN, file=rest)
     if rest in LIKE_LINUX:
         return replace(LIKE_LINUX[rest], label=label or rest)
     agent, *programs = rest.split(":") if rest.split(":")[0] in AGENTS else ["reno", rest] if label else [rest]
@@ -87,14 +101,15 @@ def base_name(program: str) -> str:
     if is_name(program) and "/" not in program and not program.endswith(".portus"):
         return program
     base = program.rpartition("/")[2]
-    base = base[: -len(".portus")] if base.endswith(".portus") else base
+    for ending in (".portus", OUTSIDE):
+        base = base[: -len(ending)] if base.endswith(ending) else base
     return "".join(letter if is_name(letter) else "-" for letter in base) or "program"
 
 
-def senders(most: int | None = None) -> Parse[List[Sender]]:
+def senders(most: int | None = None, accepts_outside: bool = False) -> Parse[List[Sender]]:
     """A parser of a list of at most `most` senders with different labels, for commands in which a label stands for one
     sender. Flows over one bottleneck may have the same sender, so `add_senders` has no such rule."""
-    listed = list_of(sender, most)
+    listed = list_of(partial(sender, accepts_outside=accepts_outside), most)
 
     def parse(text: str) -> List[Sender]:
         found = listed(text)
@@ -130,7 +145,7 @@ def resolved(found: Sequence[Sender], portus: Sequence[Tuple[str, str]]) -> Tupl
     made = []
     for one in found:
         slow, avoid = (named_in(one, role, texts) for role in ("slow", "avoid"))
-        made.append(Sender(one.label, one.agent, slow, avoid))
+        made.append(replace(one, slow=slow, avoid=avoid))
     if len(texts) > LIMITS["named_programs"]:
         raise CcpError("%d programs: a scenario has at most %d" % (len(texts), LIMITS["named_programs"]))
     return made, texts

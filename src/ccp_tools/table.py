@@ -74,6 +74,9 @@ def soak(lines: Lines) -> Columns:
 
 def reply_text(reply: texts.Reply) -> str:
     """A reply as `ccp` prints it."""
+    if reply.values or reply.kind == "change" and reply.cap is None:
+        head = "update" if reply.program is None else "change:%d" % reply.program
+        return "%s:%s" % (head, ",".join("%s=%d" % value for value in reply.values))
     values = [reply.program, reply.window, reply.cap]
     return ":".join([reply.kind] + [str(value) for value in values if value is not None])
 

@@ -1,9 +1,10 @@
 """Readers of everything that `ccp` prints.
 
     kind_of                          what printed a text
-    read_table, read_soak            the tables of `campaign`, `shared` and `soak`
-    read_flows, flows_in             the flows of `fold`, `live`, `timeline`, `shared-timeline` and `rollout`
-    read_acks, acks_in               the acknowledgements of `acks` and `shared-acks`
+    read_table, read_soak            the tables of `campaign`, `shared`, `drive-table` and `soak`
+    read_flows, flows_in             the flows of `fold`, `live`, `timeline`, `shared-timeline`, `drive-timeline` and
+                                     `rollout`
+    read_acks, acks_in               the acknowledgements of `acks`, `shared-acks` and `drive-acks`
     read_link                        the packets of the link in a text of `shared`, `shared-timeline` or `shared-acks`
     counts_of, check_same_run        whether two texts are of one run
 
@@ -46,12 +47,16 @@ class Table:
 
 @dataclass(frozen=True)
 class Reply:
-    """An agent's reply. `kind` is "none", "update" (with `window`) or "change" (with `program`, `window` and `cap`)."""
+    """An agent's reply. `kind` is "none", "update" (with `window`) or "change" (with `program`, `window` and `cap`).
+
+    The reply of an agent outside has `values` in place of a cap, in their order: pairs of `cwnd`, `rate` or `controlN`
+    and a number. Its `window` is the last `cwnd`, or None."""
 
     kind: str
     window: int | None = None
     program: int | None = None
     cap: int | None = None
+    values: Tuple[Tuple[str, int], ...] = ()
 
 
 @dataclass
@@ -230,6 +235,8 @@ def span_of(line: int, text: str, name: str = "span") -> Tuple[int, int]:
 def reply_of(line: int, text: str) -> Reply:
     """The reply that a text stands for."""
     kind, *parts = text.split(":")
+    if "=" in text or kind == "change" and len(parts) == 2:
+        return own_reply(line, text)
     values = [whole(line, "reply", part) for part in parts]
     if kind == "none" and not values:
         return Reply("none")
@@ -238,6 +245,22 @@ def reply_of(line: int, text: str) -> Reply:
     if kind == "change" and len(values) == 3:
         return Reply("change", program=values[0], window=values[1], cap=values[2])
     raise BadText("a reply is none, update:WINDOW or change:PROGRAM:WINDOW:CAP, not %s" % text[:40], line)
+
+
+OWN_REPLY = re.compile(r"(update|change:([0-9]{1,2})):((?:(?:cwnd|rate|control[0-9]{1,2})=[0-9]{1,20}(?:,(?!$)|$))*)")
+
+
+def own_reply(line: int, text: str) -> Reply:
+    """The reply of an agent outside."""
+    found = OWN_REPLY.fullmatch(text)
+    if not found:
+        raise BadText("a reply of an agent outside is update:VALUES or change:PROGRAM:VALUES, not %s" % text[:40], line)
+    pairs = [value.partition("=") for value in found[3].split(",") if value]
+    values = tuple((name, whole(line, name, number)) for name, _, number in pairs)
+    window = dict(values).get("cwnd")
+    if found[2] is None:
+        return Reply("update", window, values=values)
+    return Reply("change", window, int(found[2]), values=values)
 
 
 # -- flows of fold, live, timeline and rollout

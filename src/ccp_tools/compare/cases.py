@@ -3,11 +3,12 @@
 from __future__ import annotations
 
 from dataclasses import dataclass, field
-from typing import Any, Dict, List, Sequence, Tuple
+from typing import Any, Dict, List, Mapping, Sequence, Tuple
 
 from .. import aggregation
 from ..errors import CcpError
 from ..scenario import Grid
+from ..senders import OWN
 from ..tables import LIMITS
 from ..traces import Trace
 
@@ -64,14 +65,20 @@ def longest_us(link: Trace, timeout_us: int) -> int:
     return 1000 * low
 
 
+def outside_of(case: Mapping[str, Any]) -> str:
+    """The label of a case's sender where it is an agent outside, else the empty text."""
+    return str(case["sender"]) if case["agent"] == OWN else ""
+
+
 def parts_of(scenario: Dict[str, Any]) -> List[Tuple[int, Dict[str, Any]]]:
-    """The scenario in parts that one run of `timeline`, `acks` and `audit` accepts, each with the number of its first
-    case."""
+    """The scenario in parts that one run of `timeline`, `acks` and `audit` accepts, or for an agent outside one of
+    `drive`, each with the number of its first case."""
     made: List[Tuple[int, Dict[str, Any]]] = []
     first, at, cases = 0, 0, scenario["cases"]
     while at < len(cases):
         at += 1
-        if at == len(cases) or not fits(scenario, cases[first : at + 1]):
+        is_last = at == len(cases) or outside_of(cases[at]) != outside_of(cases[first])
+        if is_last or not fits(scenario, cases[first : at + 1]):
             made.append((first, part_of(scenario, cases[first:at])))
             first = at
     return made

@@ -19,8 +19,9 @@ from ..metrics import Window
 from ..scenario import add_grid, check_longest, grid_of, seconds
 from ..scenario_files import Scenario, scenario_text
 from ..senders import files_of, senders
-from . import measured, programs, report, shared
-from .cases import Comparison
+from ..tables import AGENTS
+from . import measured, outside, programs, report, shared
+from .cases import Comparison, outside_of
 from .runs import Progress, Results, Runner, shown_cases
 
 # members of Comparison that are kept in compare.toml as they stand, by the names of their options
@@ -52,7 +53,7 @@ class Named(List[Any]):
 
 def named_senders(text: str) -> Named:
     """A parser of --senders that keeps the words."""
-    made = Named(senders(plots.MOST_SENDERS)(text))
+    made = Named(senders(plots.MOST_SENDERS, accepts_outside=True)(text))
     made.words = [word.strip() for word in text.split(",")]
     return made
 
@@ -261,6 +262,7 @@ def run(arguments: argparse.Namespace) -> int:
             warn(text)
     path = program.find_program(arguments.ccp)
     remarks = programs.check(files_of(arguments.senders, arguments.portus), scenario["programs"], path)
+    outside.check(arguments.senders, path)
     if not arguments.quiet:
         for text in remarks:
             warn(text)
@@ -281,7 +283,9 @@ def run(arguments: argparse.Namespace) -> int:
     try:
         shown = shown_cases(scenario)
         numbers = [number for some in shown.values() for number in some]
-        results = Runner(path, folder, progress).run(scenario, windows, answered_of(arguments), numbers)
+        files = {one.label: one.file for one in arguments.senders if one.file}
+        runner = Runner(path, folder, progress, files)
+        results = runner.run(scenario, windows, answered_of(arguments), numbers)
         finish(arguments, scenario, results, windows, folder, progress, path, remarks, beside)
     finally:
         write_manifest(folder, before)
@@ -359,7 +363,10 @@ def size_text(grid: Comparison, scenario: Scenario, path: Path) -> str:
 def estimated_s(scenario: Scenario, path: Path, acks: int) -> float:
     """About how many seconds a comparison takes: one case is run, and each acknowledgement is printed, counted twice
     more, checked once without other workers, and read."""
-    case = scenario["cases"][0]
+    # an agent outside takes what its own code takes; the datapath does the same for it as for another one
+    case = {**scenario["cases"][0]}
+    if outside_of(case):
+        case["agent"] = next(iter(AGENTS))
     seen = []
     for count in (0, min(TRIAL_ACKS, case["acks"])):
         trial = {

@@ -20,6 +20,7 @@ import pandas as pd
 from matplotlib.figure import Figure
 
 from .. import metrics, plots, program, slow_start
+from ..drive.agents import load_agent
 from ..interrupts import without_interrupts
 from ..metrics import SHOWN, Window, counted
 from ..plots import Look
@@ -27,6 +28,7 @@ from ..scenario_files import Scenario
 from ..senders import resolved
 from ..traces import Trace, gap_warning, gaps_of, trace_times
 from . import shared
+from .outside import file_sha256
 from .runs import Results, joined, shown_cases
 
 # the columns of the report's table, and those of the printed one with their short names
@@ -374,6 +376,7 @@ class Page:
             plots=[{"plot": one, "images": [image_of(path) for path in one.files]} for one in self.plots],
             traces=self.traces(),
             senders=self.senders(),
+            has_outside=bool(self.results.recordings),
             parts=self.results.parts,
             options=options,
             versions=versions(self.path),
@@ -384,6 +387,11 @@ class Page:
         found = ["%s: %s" % (place_of(row), row.doubts) for row in rows if row.doubts]
         found += slow_start.note_of(*marks_of(self.frame))
         found += [*self.remarks, *(text for one in self.sharings for text in one.doubts)]
+        alone = [one.label for one in self.arguments.senders if one.file]
+        if self.arguments.shared and alone:
+            found.append(
+                "Agents outside drive a link alone, and aren't among those that share one: " + ", ".join(alone)
+            )
         if metrics.spans_differ(self.frame):
             found.append("Senders are measured over different spans, so their figures aren't comparable as they stand.")
         return found
@@ -448,8 +456,18 @@ class Page:
         found, texts = resolved(self.arguments.senders, self.arguments.portus)
         made = []
         for one, word in zip(found, self.arguments.senders.words):
-            programs = [{"name": name, "text": texts[name], "sha256": sha256(texts[name])} for name in one.programs()]
-            made.append({"label": one.label, "how": how_of(one, self.frame), "word": word, "programs": programs})
+            own = load_agent(one.file).programs if one.file else {name: texts[name] for name in one.programs()}
+            programs = [{"name": name, "text": text, "sha256": sha256(text)} for name, text in own.items()]
+            files = [
+                {"name": recording.path.name, "sha256": recording.sha256}
+                for recording in self.results.recordings
+                if one.file and recording.label == one.label
+            ]
+            file = {"name": one.file, "sha256": file_sha256(one.file)} if one.file else None
+            how = how_of(one, self.frame)
+            made.append(
+                {"label": one.label, "how": how, "word": word, "programs": programs, "file": file, "recordings": files}
+            )
         return made
 
 
@@ -461,6 +479,8 @@ def gap_warnings(scenario: Scenario) -> List[str]:
 
 def how_of(one: Any, frame: pd.DataFrame) -> str:
     """How a sender runs, by what its cases did."""
+    if one.file:
+        return "an agent outside ccp, which drove its flows by frames"
     if not one.programs():
         return "the built-in agent with its built-in programs"
     where = (

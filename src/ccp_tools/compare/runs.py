@@ -17,18 +17,21 @@ from ..frames import AckFrame, Timeline, acks_in, timeline_of
 from ..metrics import Window
 from ..scenario_files import scenario_text
 from ..tables import COLUMNS, LIMITS, SUMS
-from .cases import parts_of
+from .cases import outside_of, parts_of
+from .outside import OF_DRIVE, Recording, record, recording_path
 
 
 @dataclass
 class Results:
-    """What the runs of a comparison gave: a row of figures a case, what is plotted of the cases that are shown, and in
-    how many parts they ran. Flows have the numbers of their cases."""
+    """What the runs of a comparison gave: a row of figures a case, what is plotted of the cases that are shown, in how
+    many parts those ran that the judge said yes to, and the recordings of agents outside. Flows have the numbers of
+    their cases."""
 
     figures: pd.DataFrame
     timelines: List[Timeline] = field(default_factory=list)
     acks: Dict[int, AckFrame] = field(default_factory=dict)
-    parts: int = 1
+    parts: int = 0
+    recordings: List[Recording] = field(default_factory=list)
 
 
 @dataclass
@@ -47,12 +50,15 @@ class Progress:
 
 @dataclass
 class Runner:
-    """Runs parts of a scenario, and writes what they print to a folder as if it were one run."""
+    """Runs parts of a scenario, and writes what they print to a folder as if it were one run. `outside` has the files
+    of agents outside by their senders' labels."""
 
     program: Path
     folder: Path
     progress: Progress
+    outside: Mapping[str, str] = field(default_factory=dict)
     rows: List[Dict[str, Any]] = field(default_factory=list)
+    recording: Recording | None = None
 
     def run(
         self, scenario: Mapping[str, Any], windows: Mapping[str, Window], answered: Iterable[str], shown: Iterable[int]
@@ -60,12 +66,13 @@ class Runner:
         """Runs all cases. `windows` maps a trace to its window of time, `answered` are the senders whose agent is
         meant to change their program, and `shown` the numbers of the cases that are plotted."""
         parts, wanted = parts_of(dict(scenario)), set(shown)
-        found, results = [], Results(pd.DataFrame(), parts=len(parts))
+        found, results = [], Results(pd.DataFrame())
         with (self.folder / "timeline.txt").open("w") as timeline_file, (self.folder / "acks.txt").open(
             "w"
         ) as acks_file:
             for number, (first, part) in enumerate(parts, 1):
                 self.name = "part %d of %d: " % (number, len(parts)) if len(parts) > 1 else ""
+                self.begin(part, results)
                 table = self.table(part)
                 timeline = self.timeline(part, first, timeline_file)
                 text = self.printed("acks", part, first, acks_file)
@@ -79,11 +86,23 @@ class Runner:
         (self.folder / "table.txt").write_text(table_text(self.rows))
         return results
 
+    def begin(self, part: Mapping[str, Any], results: Results) -> None:
+        """Lets an agent outside drive the flows of a part, where they are its own."""
+        label, self.recording = outside_of(part["cases"][0]), None
+        if not label:
+            results.parts += 1
+            return
+        self.progress.say("%s%s drives %s" % (self.name, label, size_of(part)))
+        path = recording_path(self.folder, label, [one.label for one in results.recordings].count(label))
+        self.recording = record(label, self.outside[label], part, path, self.program)
+        results.recordings.append(self.recording)
+
     def output(self, mode: str, part: Mapping[str, Any]) -> str:
-        """What a mode prints of a part."""
-        count = len(part["cases"])
-        acks = sum(case["acks"] for case in part["cases"])
-        self.progress.say("%s%s of %s, %d acknowledgements" % (self.name, mode, metrics.counted(count, "case"), acks))
+        """What a mode prints of a part, or its kin of `drive` of the part's recording."""
+        mode = mode if self.recording is None else OF_DRIVE[mode]
+        self.progress.say("%s%s of %s" % (self.name, mode, size_of(part)))
+        if self.recording is not None:
+            return program.run(mode, self.recording.data, program=self.program).output
         return program.run(mode, part, program=self.program, workers=program.processors()).output
 
     def table(self, part: Mapping[str, Any]) -> texts.Table:
@@ -93,8 +112,19 @@ class Runner:
         return made
 
     def timeline(self, part: Mapping[str, Any], first: int, file: TextIO) -> Timeline:
-        """The timeline of a part, which `audit` has to say yes to."""
+        """The timeline of a part, which `audit` has to say yes to. That of an agent outside isn't judged: it is worked
+        out from its recording."""
         text = self.output("timeline", part)
+        if self.recording is None:
+            self.audit(text, part, first)
+        file.write(renumbered(text, first))
+        made = timeline_of(texts.flows_in(text))
+        for frame in (made.reports, made.faults, made.epochs, made.ends):
+            frame["flow"] += first
+        return made
+
+    def audit(self, text: str, part: Mapping[str, Any], first: int) -> None:
+        """Asks `audit` whether a timeline is one of a part."""
         self.progress.say(self.name + "audit of the timeline")
         given = scenario_text(part).rstrip("\n") + "\n---\n" + text
         if len(given) > LIMITS["audit_bytes"]:
@@ -104,17 +134,18 @@ class Runner:
         said = program.run("audit", given, program=self.program).output.strip()
         if said != "yes":
             raise CcpError("audit: the timeline isn't one of the scenario: %s, counted from case %d" % (said, first))
-        file.write(renumbered(text, first))
-        made = timeline_of(texts.flows_in(text))
-        for frame in (made.reports, made.faults, made.epochs, made.ends):
-            frame["flow"] += first
-        return made
 
     def printed(self, mode: str, part: Mapping[str, Any], first: int, file: TextIO) -> str:
         """What a mode prints of a part; the file gets it with the numbers of all cases."""
         text = self.output(mode, part)
         file.write(renumbered(text, first))
         return text
+
+
+def size_of(part: Mapping[str, Any]) -> str:
+    """How large a part is, in words."""
+    acks = sum(case["acks"] for case in part["cases"])
+    return "%s, %d acknowledgements" % (metrics.counted(len(part["cases"]), "case"), acks)
 
 
 def renumbered(text: str, first: int) -> str:

@@ -21,7 +21,7 @@ from ..metrics import Link, Window
 from ..plots import Look
 from ..scenario_files import Scenario, write_scenario
 from ..tables import LIMITS
-from .cases import LEAST_US
+from .cases import LEAST_US, outside_of
 from .runs import Progress, shown_cases
 
 # how often the bottleneck is looked at
@@ -144,6 +144,12 @@ def run_all(
     """Runs the senders together over each trace, and keeps the scenarios and the tables in the folder."""
     made = []
     for trace, sets in sets_of(scenario).items():
+    """Runs the senders together over each trace, and keeps scenario and table in the folder. Agents outside aren't
+    among them: they drive a link alone."""
+    for trace, every in shown_cases(scenario).items():
+        numbers = [number for number in every if not outside_of(scenario["cases"][number])]
+        if not numbers:
+            continue
         until_us = windows[trace].until_us or LEAST_US
         seeds = ", " + metrics.counted(len(sets), "seed") if len(sets) > 1 else ""
         progress.say("shared: %s together over %s%s" % (metrics.counted(len(sets[0]), "flow"), trace, seeds))

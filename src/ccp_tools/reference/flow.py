@@ -1,6 +1,7 @@
 """A flow, as docs/flow.md has it: its word of acknowledgements, takings and answers, and what of it is printed."""
 from __future__ import annotations
 
+from dataclasses import dataclass
 from pathlib import Path
 from typing import Any, Callable, Dict, Iterator, List, Mapping, Optional, Sequence, Tuple, Union
 
@@ -45,7 +46,7 @@ class Programs:
 class Report:
     """A report that waits or is taken."""
 
-    def __init__(self, flow: Flow, now: int, fields: List[Tuple[str, int]]) -> None:
+    def __init__(self, flow: BaseFlow, now: int, fields: List[Tuple[str, int]]) -> None:
         self.program, self.epoch = flow.program, len(flow.epochs) - 1
         self.span = (flow.first, flow.acks)
         self.now, self.cwnd, self.rate, self.fields = now, flow.state.cwnd, flow.state.rate, fields
@@ -65,18 +66,28 @@ class Report:
         return {"now": self.now, "cwnd": self.cwnd, **seen}
 
 
-# the epoch and the acknowledgement of a fault
-Notice = Tuple[int, int]
+@dataclass(frozen=True)
+class Notice:
+    """The notice of a fault: the program and the epoch, the number of the acknowledgement, and its time and the window
+    after it, which is that before it."""
+
+    program: int
+    epoch: int
+    ack: int
+    fault: Fault
+    now: int
+    cwnd: int
 
 
 class Ticket:
-    """A report or a fault notice that was taken, with the counts of acknowledgements at its taking and its answer."""
+    """A report or a fault notice that was taken, with the counts of acknowledgements at its taking and its answer, and
+    the reply as a line shows it."""
 
     def __init__(self, subject: Union[Report, Notice], taken: int) -> None:
         self.subject = subject
         self.taken = taken
         self.answered = 0
-        self.reply: Reply = None
+        self.reply = "none"
 
 
 def fields_text(fields: Sequence[Tuple[str, int]]) -> str:
@@ -84,11 +95,12 @@ def fields_text(fields: Sequence[Tuple[str, int]]) -> str:
     return "".join(" %s=%d" % field for field in fields)
 
 
-class Flow:
-    """A flow as a word is made on it: its letters are `ack`, `take` and `settle`.
+class BaseFlow:
+    """What flows have in common, whoever answers their reports: the letters `ack` and `take`, epochs, and texts.
 
-    `number` is its number, `case` its case, `traces` the traces' texts by their names, `programs` those of the
-    scenario. `heard` is called with each acknowledgement. Letters that can't be made raise Illegal."""
+    `number` is the flow's number, `case` its case, `traces` the traces' texts by their names, `programs` those of the
+    scenario, and `agent_name` what its texts call its agent. `heard` is called with each acknowledgement. Letters that
+    can't be made raise Illegal."""
 
     def __init__(
         self,
@@ -96,15 +108,16 @@ class Flow:
         case: Members,
         traces: Mapping[str, str],
         programs: Programs,
+        agent_name: str,
         heard: Callable[[Acknowledgement], None] = lambda ack: None,
     ) -> None:
         self.number, self.case, self.programs, self.heard = number, case, programs, heard
+        self.agent_name = agent_name
         self.link = Link(Trace(traces[case["trace"]]), case)
-        self.agent = AGENT_NAMED[case["agent"]](case["mss"])
-        own = {phase: programs.number(case[phase]) for phase in ("ss", "ca") if phase in case}
-        self.roles = {"ss": 0, "ca": AGENTS[case["agent"]], **own}
         self.acks = self.first = self.held = self.made = self.last = self.peak = 0
         self.lost = self.timeouts = self.acked = 0
+        self.program = 0
+        self.stopped = False
         self.epochs: List[Tuple[int, int, int]] = []
         self.faults: List[Tuple[int, int, str, str]] = []
         self.tickets: List[Ticket] = []
@@ -112,15 +125,13 @@ class Flow:
         self.notice: Optional[Notice] = None
         self.out: Optional[Ticket] = None
         self.state = State({}, 0, 0, 0)
-        self._change(Change("ss", self.agent.bytes(), MOST))
 
-    def _change(self, change: Change) -> None:
-        self.program = self.roles[change.phase]
+    def _begin_epoch(self, program: int, state: State) -> None:
+        """Starts an epoch of a program in a state."""
+        self.program, self.state = program, state
         self.stopped, self.notice, self.first = False, None, self.acks
-        values = {"cap": change.cap, "mss": self.case["mss"]}
-        self.state = self.programs[self.program].start(values, change.window, self.state.rate, self.last)
-        self.epochs.append((self.program, self.acks, change.window))
-        self.peak = max(self.peak, change.window)
+        self.epochs.append((program, self.acks, state.cwnd))
+        self.peak = max(self.peak, state.cwnd)
 
     # ---- the letters
 
@@ -144,8 +155,9 @@ class Flow:
     def _record(self, outcome: Union[str, Fault, List[Tuple[str, int]]], ack: Acknowledgement) -> None:
         if isinstance(outcome, Fault):
             self.stopped = True
-            self.notice = (len(self.epochs) - 1, self.acks - 1)
-            self.faults.append((*self.notice, outcome.kind, outcome.place))
+            epoch, at = len(self.epochs) - 1, self.acks - 1
+            self.notice = Notice(self.program, epoch, at, outcome, ack["now"], self.state.cwnd)
+            self.faults.append((epoch, at, outcome.kind, outcome.place))
         elif outcome == "held":
             self.held += 1
         elif not isinstance(outcome, str):
@@ -170,26 +182,120 @@ class Flow:
         self.out = Ticket(subject, self.acks)
         self.tickets.append(self.out)
 
-    def settle(self) -> None:
-        """Applies the agent's answer to the ticket that is out."""
+    def _closed(self) -> Ticket:
+        """The ticket that is out, which is answered now."""
         if self.out is None:
             raise Illegal("no ticket is out")
         ticket, self.out = self.out, None
-        ticket.answered, ticket.reply = self.acks, self._reply(ticket.subject)
-        if isinstance(ticket.reply, Update):
-            self.state.cwnd = ticket.reply.window
-        elif isinstance(ticket.reply, Change):
-            self._change(ticket.reply)
+        ticket.answered = self.acks
+        return ticket
+
+    def next_letter(self) -> str:
+        """The letter that the campaign word has next, "A", "T" or "C", or the empty text where it is complete."""
+        is_over = self.acks == self.case["acks"]
+        if self.out and (is_over or self.acks - self.out.taken >= self.case.get("lag", 0)):
+            return "C"
+        if self.can_take():
+            return "T"
+        return "" if is_over else "A"
+
+    # ---- texts
+
+    def head(self) -> str:
+        """The line that begins the flow's part of a text."""
+        return "flow %d case=%s agent=%s" % (self.number, self.case["name"], self.agent_name)
+
+    def lines(self) -> List[str]:
+        """The flow's part of a text of `live`, `timeline` and `drive-timeline`."""
+        return [
+            self.head(),
+            *("epoch %d program=%d at=%d cwnd=%d" % (number, *epoch) for number, epoch in enumerate(self.epochs)),
+            *("fault epoch=%d ack=%d kind=%s at=%s" % fault for fault in self.faults),
+            *("ticket %d %s" % (number, ticket_line(ticket)) for number, ticket in enumerate(self.tickets)),
+            self._end_line(),
+        ]
+
+    def _end_line(self) -> str:
+        counts = (self.acks, self.made, self.held, len(self.faults), self.first, self.acks)
+        line = "end acks=%d reports=%d held=%d faults=%d tail=%d..%d" % counts
+        line += " stopped=%s cwnd=%d rate=%d" % ("yes" if self.stopped else "no", self.state.cwnd, self.state.rate)
+        return line + fields_text(self.programs[self.program].shown(self.state))
+
+    def row(self) -> Dict[str, Union[int, str]]:
+        """The flow's row of a table, by its columns."""
+        return {
+            "case": self.case["name"],
+            "agent": self.agent_name,
+            "acks": self.acks,
+            "reports": self.made,
+            "held": self.held,
+            "faults": len(self.faults),
+            "epochs": len(self.epochs),
+            "lost": self.lost,
+            "timeouts": self.timeouts,
+            "acked": self.acked,
+            "peak": self.peak,
+            "cwnd": self.state.cwnd,
+            "now": self.last,
+            "tail": self.acks - self.first,
+        }
+
+
+def ticket_line(ticket: Ticket) -> str:
+    """The line of an answered ticket, from its subject on."""
+    counts = " taken=%d answered=%d reply=%s" % (ticket.taken, ticket.answered, ticket.reply)
+    if isinstance(ticket.subject, Report):
+        return ticket.subject.line() + counts + ticket.subject.shown()
+    return "fault epoch=%d ack=%d" % (ticket.subject.epoch, ticket.subject.ack) + counts
+
+
+class Flow(BaseFlow):
+    """A flow with an agent of the model's own, as a word is made on it: its letters are `ack`, `take` and `settle`."""
+
+    def __init__(
+        self,
+        number: int,
+        case: Members,
+        traces: Mapping[str, str],
+        programs: Programs,
+        heard: Callable[[Acknowledgement], None] = lambda ack: None,
+    ) -> None:
+        super().__init__(number, case, traces, programs, case["agent"], heard)
+        self.agent = AGENT_NAMED[case["agent"]](case["mss"])
+        own = {phase: programs.number(case[phase]) for phase in ("ss", "ca") if phase in case}
+        self.roles = {"ss": 0, "ca": AGENTS[case["agent"]], **own}
+        self._change(Change("ss", self.agent.bytes(), MOST))
+
+    def _change(self, change: Change) -> None:
+        program = self.roles[change.phase]
+        values = {"cap": change.cap, "mss": self.case["mss"]}
+        self._begin_epoch(program, self.programs[program].start(values, change.window, self.state.rate, self.last))
+
+    def settle(self) -> None:
+        """Applies the agent's answer to the ticket that is out."""
+        ticket = self._closed()
+        reply = self._reply(ticket.subject)
+        ticket.reply = self._reply_text(reply)
+        if isinstance(reply, Update):
+            self.state.cwnd = reply.window
+        elif isinstance(reply, Change):
+            self._change(reply)
         self.peak = max(self.peak, self.state.cwnd)
 
     def _reply(self, subject: Union[Report, Notice]) -> Reply:
-        epoch = subject.epoch if isinstance(subject, Report) else subject[0]
-        if epoch != self.agent.epoch:
+        if subject.epoch != self.agent.epoch:
             return None
         if not isinstance(subject, Report):
             return self.agent.change(self.agent.phase)
         fields = self.programs[self.roles[self.agent.phase]].fields
         return self.agent.report(subject.read([name[len("Report.") :] for name in fields]))
+
+    def _reply_text(self, reply: Reply) -> str:
+        if reply is None:
+            return "none"
+        if isinstance(reply, Update):
+            return "update:%d" % reply.window
+        return "change:%d:%d:%d" % (self.roles[reply.phase], reply.window, reply.cap)
 
     # ---- words
 
@@ -218,10 +324,11 @@ class Flow:
 
     def run_campaign_word(self) -> None:
         """Makes the campaign word, which `campaign`, `timeline` and `acks` have."""
-        while self.acks < self.case["acks"]:
-            self.ack()
-            self.settle_due()
-        self.settle_all()
+        letters: Dict[str, Callable[[], None]] = {"A": self.ack, "T": self.take, "C": self.settle}
+        letter = self.next_letter()
+        while letter:
+            letters[letter]()
+            letter = self.next_letter()
 
     def run_counts(self, counts: Sequence[Tuple[int, int]]) -> Optional[Tuple[int, str]]:
         """Makes the word in which ticket i is taken and answered at the counts of acknowledgements `counts[i]`, and the
@@ -239,60 +346,6 @@ class Flow:
         self.advance(self.case["acks"])
         self.settle_all()
         return wrong
-
-    # ---- texts
-
-    def head(self) -> str:
-        """The line that begins the flow's part of a text."""
-        return "flow %d case=%s agent=%s" % (self.number, self.case["name"], self.case["agent"])
-
-    def lines(self) -> List[str]:
-        """The flow's part of a text of `live` and `timeline`."""
-        return [
-            self.head(),
-            *("epoch %d program=%d at=%d cwnd=%d" % (number, *epoch) for number, epoch in enumerate(self.epochs)),
-            *("fault epoch=%d ack=%d kind=%s at=%s" % fault for fault in self.faults),
-            *("ticket %d %s" % (number, self._ticket_line(ticket)) for number, ticket in enumerate(self.tickets)),
-            self._end_line(),
-        ]
-
-    def _end_line(self) -> str:
-        counts = (self.acks, self.made, self.held, len(self.faults), self.first, self.acks)
-        line = "end acks=%d reports=%d held=%d faults=%d tail=%d..%d" % counts
-        line += " stopped=%s cwnd=%d rate=%d" % ("yes" if self.stopped else "no", self.state.cwnd, self.state.rate)
-        return line + fields_text(self.programs[self.program].shown(self.state))
-
-    def _ticket_line(self, ticket: Ticket) -> str:
-        counts = " taken=%d answered=%d reply=%s" % (ticket.taken, ticket.answered, self._reply_text(ticket.reply))
-        if isinstance(ticket.subject, Report):
-            return ticket.subject.line() + counts + ticket.subject.shown()
-        return "fault epoch=%d ack=%d" % ticket.subject + counts
-
-    def _reply_text(self, reply: Reply) -> str:
-        if reply is None:
-            return "none"
-        if isinstance(reply, Update):
-            return "update:%d" % reply.window
-        return "change:%d:%d:%d" % (self.roles[reply.phase], reply.window, reply.cap)
-
-    def row(self) -> Dict[str, Union[int, str]]:
-        """The flow's row of a table, by its columns."""
-        return {
-            "case": self.case["name"],
-            "agent": self.case["agent"],
-            "acks": self.acks,
-            "reports": self.made,
-            "held": self.held,
-            "faults": len(self.faults),
-            "epochs": len(self.epochs),
-            "lost": self.lost,
-            "timeouts": self.timeouts,
-            "acked": self.acked,
-            "peak": self.peak,
-            "cwnd": self.state.cwnd,
-            "now": self.last,
-            "tail": self.acks - self.first,
-        }
 
 
 def flows_of(scenario: Members, heard: Callable[[Acknowledgement], None] = lambda ack: None) -> Iterator[Flow]:

@@ -4,10 +4,11 @@
 
 Input I of seed S is the same on every machine. Where the reference model has the mode (`fold`, `campaign`,
 `timeline`, `acks`, `shared`, and `live` over the counts that it prints), the output has to be the model's. `feed` has
-to answer the reports and faults that the model gives. `audit` has to say yes to the model's timeline, and to name the
-flow in which a line was changed. A mistake that was made has to be refused at its path. Elsewhere the lines have to
-be readable, and the same for each number of workers. The status has to be 0, or 3 where a refusal is expected: out of
-memory (6) is a failure.
+to answer the reports and faults that the model gives. The modes of `drive` have to write what the model writes of an
+agent's frames; a program without these modes is tried on the others. `audit` has to say yes to the model's timeline,
+and to name the flow in which a line was changed. A mistake that was made has to be refused at its path. Elsewhere the
+lines have to be readable, and the same for each number of workers. The status has to be 0, or 3 where a refusal is
+expected: out of memory (6) is a failure.
 
 At the end a table has how many inputs each trial and each trait had. --only I runs input I alone and prints it;
 --trials takes some of the trials alone.
@@ -29,8 +30,8 @@ from .. import program as programs
 from ..arguments import Parser, add_ccp, list_of, whole
 from ..errors import CcpError
 from ..program import Run, find_program, processors
-from .inputs import TRAITS
-from .trials import TRIALS, Trial
+from .inputs import DRIVEN_TRAITS, TRAITS
+from .trials import NEEDED, TRIALS, Trial
 
 # how long one run may take
 SECONDS = 600.0
@@ -96,14 +97,19 @@ def table(found: Sequence[Result], seconds: float) -> List[str]:
     names: Counter[str] = collections.Counter(one.name for one in found)
     traits: Counter[str] = collections.Counter(trait for one in found for trait in one.traits)
     lines = ["%6d %s" % (names[name], name) for name in TRIALS if names[name]]
-    lines += ["%6d with %s" % (traits[trait], trait) for trait in TRAITS]
+    lines += ["%6d with %s" % (traits[trait], trait) for trait in [*TRAITS, *DRIVEN_TRAITS]]
     return [*lines, "%6d inputs in %.0f s, %d failed" % (len(found), seconds, sum(bool(one.problem) for one in found))]
 
 
 def main(words: Sequence[str]) -> int:
     """Runs the generator, and returns its exit status."""
     asked = parser().parse_args(words)
-    tries = Tries(asked.seed, str(find_program(asked.ccp)), asked.trials or list(TRIALS))
+    program = str(find_program(asked.ccp))
+    tries = Tries(asked.seed, program, asked.trials or list(TRIALS))
+    unknown = [name for name in tries.names if name in NEEDED and not programs.knows_mode(NEEDED[name], program)]
+    if asked.trials and unknown:
+        raise CcpError("%s: it has no mode %s" % (program, NEEDED[unknown[0]]))
+    tries = Tries(asked.seed, program, [name for name in tries.names if name not in unknown])
     if asked.only is not None:
         return show(tries, asked.only)
     begun = time.monotonic()
@@ -113,7 +119,8 @@ def main(words: Sequence[str]) -> int:
         if result.problem:
             print("input %d of seed %d, %s: %s" % (result.index, tries.seed, result.name, result.problem), flush=True)
     print("\n".join(table(found, time.monotonic() - begun)))
-    missing = [trait for trait in TRAITS if not any(trait in one.traits for one in found)]
+    wanted = TRAITS + ([] if unknown else DRIVEN_TRAITS)
+    missing = [trait for trait in wanted if not any(trait in one.traits for one in found)]
     if missing and asked.count >= 1000 and not asked.trials:
         print("no input has %s" % " or ".join(missing))
         return 1

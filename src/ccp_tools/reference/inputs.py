@@ -4,10 +4,13 @@ Each function takes a `random.Random`, so that equal seeds give equal inputs; th
 traits that an input has are noted by their names in a set."""
 from __future__ import annotations
 
+import struct
 from random import Random
-from typing import Any, Dict, List, Sequence, Set, Union
+from typing import Any, Callable, Dict, List, Sequence, Set, Union
 
 from ..tables import LIMITS, PRIMITIVE_WORDS, PRIMITIVES
+from . import wire
+from .driven import DrivenFlow, Runs
 from .language import MOST, Meaning
 
 # what is seldom met by chance, and what inputs of their own are made for
@@ -29,6 +32,15 @@ TRAITS = [
     "faults",
     "held reports",
     "timeouts",
+]
+# the same of the modes of `drive`
+DRIVEN_TRAITS = [
+    "a run to its end",
+    "refused frames",
+    "a change under way",
+    "a cut frame",
+    "a bad frame",
+    "a late answer",
 ]
 # an expression or a command: an atom, or a list
 Tree = Union[str, List[Any]]
@@ -352,3 +364,109 @@ def scenario(draw: Random, traits: Traits, wanted: Sequence[str] = (), most_acks
     cases = [case(draw, "c%d" % at, names, most_acks, traits) for at in range(draw.randrange(1, 4))]
     traces = {"t0": trace_text(draw), "t1": trace_text(draw)}
     return {"version": 1, "programs": programs, "traces": traces, "cases": cases}
+
+
+# ---- frames of an agent outside
+
+
+class Frames:
+    """Makes what an agent outside may send to the flows of a scenario. `all()` gives the bytes: most are answers that
+    move the flows on, some are frames that are refused or passed over, and the end may be cut or bad."""
+
+    def __init__(self, draw: Random, scenario: Dict[str, Any], traits: Traits) -> None:
+        self.draw = draw
+        self.traits = traits
+        self.runs = Runs(scenario)
+        # how often a frame isn't one that the flow can apply
+        self.share = draw.choice([0.0, 0.1, 0.5])
+
+    def all(self) -> bytes:
+        """The frames of a run."""
+        made = []
+        for _ in range(self.draw.choice([0, 3, 40, 400, 400, 400])):
+            if self.runs.present is None:
+                break
+            made.append(self._next(self.runs.present))
+            self.runs.answer(wire.frame_at(made[-1], 0, len(made[-1])))
+        if self.runs.present is None:
+            self.traits.add("a run to its end")
+            made += [self._hostile(None) for _ in range(self.draw.choice([0, 0, 1, 5]))]
+        for flow in self.runs.flows:
+            late = flow.case.get("lag", 0) and flow.tickets
+            seen = {"faults": flow.faults, "held reports": flow.held, "timeouts": flow.timeouts, "a late answer": late}
+            self.traits |= {trait for trait, is_seen in seen.items() if is_seen}
+        return b"".join(made) + self._end()
+
+    def _next(self, flow: DrivenFlow) -> bytes:
+        if chance(self.draw, self.share):
+            return self._hostile(flow)
+        if flow.epochs and chance(self.draw, 0.8):
+            return wire.update(flow.number, self._values(flow, flow.program), self._version())
+        number = self.draw.randrange(len(flow.programs.texts))
+        if flow.epochs:
+            self.traits.add("a change under way")
+        return wire.change(flow.number, number, self._values(flow, number), self._version())
+
+    def _version(self) -> int:
+        return self.draw.choice([1, 2])
+
+    def _values(self, flow: DrivenFlow, program: int) -> List[wire.Value]:
+        controls = len(flow.programs[program].controls)
+        kinds: List[Callable[[], wire.Value]] = [self._window, self._window, self._rate]
+        if controls:
+            kinds.append(lambda: (wire.CONTROL, self.draw.randrange(controls), self._number()))
+        count = self.draw.choice([0, 1, 1, 2, 5, LIMITS["pairs"] if chance(self.draw, 0.1) else 1])
+        return [self.draw.choice(kinds)() for _ in range(count)]
+
+    def _window(self) -> wire.Value:
+        return wire.IMPLICIT, wire.CWND, self.draw.choice([0, 1, 1448, 14_480, 100_000, self._number()])
+
+    def _rate(self) -> wire.Value:
+        return wire.IMPLICIT, wire.RATE, self._number()
+
+    def _number(self) -> int:
+        return self.draw.choice([0, 1, 1000, self.draw.randrange(10**6), self.draw.choice(BIG)])
+
+    def _hostile(self, flow: Union[DrivenFlow, None]) -> bytes:
+        """A frame that no flow applies, or only by chance."""
+        number = flow.number if flow else self.draw.choice([0, 1])
+        other = self.draw.choice([number + 1, 63, 64, 2**32 - 1])
+        version, above = self._version(), self.draw.choice([3, 15, 16, 255, 2**32 - 1])
+        cap = (wire.CONTROL, self.draw.randrange(LIMITS["controls"]), self._number())
+        made = [
+            wire.update(number, [cap], version),
+            wire.update(other, [self._window()], version),
+            wire.change(other, 0, [], version),
+            wire.change(number, above, [], version),
+            wire.change(number, 0, [self._rate(), cap], version),
+            wire.create(number, 1, 1448, version),
+            wire.measure(number, 0, 0, (0, 1), (0, 1, 2), [1] * self.draw.randrange(33), version),
+            wire.fault(number, 0, 0, 0, (0, 0), (0, 0), version),
+            wire.ack(number, {"now": 1, "was_timeout": 1}, version),
+            wire.refused(number, self.draw.randrange(1, 10), 0, version),
+            self._install(number, version),
+        ]
+        at = self.draw.randrange(len(made))
+        self.traits |= {"refused frames"} if at < 5 else set()
+        return made[at]
+
+    def _install(self, flow: int, version: int) -> bytes:
+        """An Install that says nothing that a code may say."""
+        counts = [self.draw.randrange(most) for most in (33, 65, 65, 257)] if chance(self.draw, 0.3) else [0, 0, 0, 0]
+        flag, register = struct.pack("<BQ", 1, self._number()), struct.pack("<BQ", 6, 255)
+        body = flag * (counts[0] + counts[1]) + struct.pack("<HH", 7, 7) * counts[2]
+        body = struct.pack("<I", 3) + body + (bytes([14]) + register * 3) * counts[3]
+        return struct.pack("<BBBBHHII", wire.INSTALL, version, *counts, flow, 16 + len(body)) + body
+
+    def _end(self) -> bytes:
+        """What comes after the frames: mostly nothing."""
+        whole = self._hostile(self.runs.present)
+        kind = self.draw.randrange(8)
+        if kind == 0:
+            self.traits.add("a cut frame")
+            return whole[: self.draw.randrange(1, len(whole))]
+        if kind == 1:
+            at = self.draw.randrange(len(whole))
+            self.traits.add("a bad frame")
+            return whole[:at] + bytes([self.draw.randrange(256)]) + whole[at + 1 :]
+        return bytes(self.draw.randrange(256) for _ in range(self.draw.randrange(40))) if kind == 2 else b""

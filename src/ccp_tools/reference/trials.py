@@ -4,7 +4,6 @@ from __future__ import annotations
 
 import json
 import re
-import struct
 from dataclasses import dataclass, field
 from random import Random
 from typing import Any, Callable, Dict, List, Optional, Sequence, Set, Tuple
@@ -12,8 +11,9 @@ from typing import Any, Callable, Dict, List, Optional, Sequence, Set, Tuple
 from .. import texts
 from ..errors import BadText, CcpError
 from ..program import Run
-from ..tables import LIMITS, PRIMITIVES
-from . import inputs, modes
+from ..tables import LIMITS
+from . import driven, inputs, modes, wire
+from .code import heads
 from .flow import flows_of
 from .inputs import Traits, chance
 from .language import MOST, Fault, Meaning
@@ -23,7 +23,6 @@ Runner = Callable[..., Run]
 Judge = Callable[[Run, Runner], Optional[str]]
 REFUSAL = re.compile(r"ccp: input refused: (.+)\n")
 WIDE = ["33 fields", "64 fields", "64 controls", "64 blocks", "eight locals", "code of 201 to 256 instructions"]
-KINDS = ["Overflow", "Underflow", "ZeroDivisor"]
 
 
 @dataclass
@@ -365,19 +364,12 @@ def mistake(draw: Random, scenario: Dict[str, Any], at: int) -> str:
 
 # ---- frames
 
-CREATE, MEASURE, CHANGE, FAULT, ACK, REFUSED = 1, 2, 5, 6, 7, 8
 TOO_WIDE = 9
-
-
-def frame(kind: int, version: int, flow: int, body: bytes, n1: int = 0) -> bytes:
-    """A frame whose other counts are 0."""
-    return struct.pack("<BBBBHHII", kind, version, n1, 0, 0, 0, flow, 16 + len(body)) + body
 
 
 @dataclass
 class Feed:
-    """A flow over `feed`: the answers that are expected of its acknowledgements. Of a Fault the number of the
-    instruction isn't known, and is left out."""
+    """A flow over `feed`: the answers that are expected of its acknowledgements."""
 
     number: int
     version: int
@@ -394,34 +386,18 @@ class Feed:
             outcome, state = self.meaning.one(state, ack)
             now = ack.get("now", 0)
             if isinstance(outcome, Fault):
-                self._fault(at, outcome, now, state.cwnd)
+                self._fault(at, outcome, (now, state.cwnd))
                 return
             if not isinstance(outcome, str):
-                self._measure((first, at + 1), (now, state.cwnd, state.rate), [value for _, value in outcome])
+                values = [value for _, value in outcome]
+                span, seen = (first, at + 1), (now, state.cwnd, state.rate)
+                self.answers.append(wire.measure(self.number, self.program, 0, span, seen, values, self.version))
                 first = at + 1
 
-    def _measure(self, span: Tuple[int, int], seen: Tuple[int, int, int], values: List[int]) -> None:
-        form = "<IIIIQQQ" if self.version == 1 else "<IIQQQQQ"
-        body = struct.pack(form, self.program, 0, *span, *seen) + struct.pack("<%dQ" % len(values), *values)
-        self.answers.append(frame(MEASURE, self.version, self.number, body, len(values)))
-
-    def _fault(self, at: int, fault: Fault, now: int, cwnd: int) -> None:
-        form = "<IIIBHQQ" if self.version == 1 else "<IIQBHQQ"
-        body = struct.pack(form, self.program, 0, at, KINDS.index(fault.kind), 0, now, cwnd)
-        self.answers.append(frame(FAULT, self.version, self.number, body))
-
-
-def without_index(answers: bytes) -> bytes:
-    """Answers with the number of each Fault's instruction set to 0."""
-    made, at = b"", 0
-    while at + 16 <= len(answers):
-        length = max(16, struct.unpack_from("<I", answers, at + 12)[0])
-        one = answers[at : at + length]
-        if one[0] == FAULT:
-            index = 29 if one[1] == 1 else 33
-            one = one[:index] + b"\0\0" + one[index + 2 :]
-        made, at = made + one, at + length
-    return made + answers[at:]
+    def _fault(self, at: int, fault: Fault, seen: Tuple[int, int]) -> None:
+        index = next(number for number, head in enumerate(heads(self.meaning)) if head is fault.node)
+        what = (wire.KINDS.index(fault.kind), index)
+        self.answers.append(wire.fault(self.number, self.program, 0, at, what, seen, self.version))
 
 
 def feed(draw: Random) -> Trial:
@@ -436,21 +412,21 @@ def feed(draw: Random) -> Trial:
     traits |= {"an Install of 64 events"} if len(meaning.blocks) == LIMITS["blocks"] else set()
     is_wide = flow.version == 1 and len(meaning.fields) > LIMITS["short_fields"]
     if is_wide:
-        flow.answers.append(frame(REFUSED, 1, flow.number, struct.pack("<BI", TOO_WIDE, 3)))
+        flow.answers.append(wire.refused(flow.number, TOO_WIDE, 3))
     else:
         flow.run(given)
-    traits |= {"faults"} if any(answer[0] == FAULT for answer in flow.answers) else set()
-    acks = b"".join(ack_frame(flow, ack) for ack in given)
+    traits |= {"faults"} if any(answer[0] == wire.FAULT for answer in flow.answers) else set()
+    acks = b"".join(wire.ack(flow.number, ack, flow.version) for ack in given)
     scenario = {"version": 1, "programs": {"p": text}, "traces": {}, "cases": []}
-    start = frame(CREATE, flow.version, flow.number, struct.pack("<QI", cwnd, 1448))
-    change = frame(CHANGE, flow.version, flow.number, struct.pack("<I", 3))
+    start = wire.create(flow.number, cwnd, 1448, flow.version)
+    change = wire.change(flow.number, 3, (), flow.version)
 
     def judge(printed: Run, run: Runner) -> Optional[str]:
         if printed.status:
             return "status %d: %s" % (printed.status, printed.errors.strip())
         install = bytes.fromhex(printed.output.split("\n")[3].split(" ")[2])
         ran = run("feed", start + install + change + acks)
-        answers = without_index(ran.output.encode("utf-8", "surrogateescape"))
+        answers = output_bytes(ran)
         if ran.status or answers != b"".join(flow.answers):
             return "status %d, the answers are %s, and expected is %s" % (
                 ran.status,
@@ -462,10 +438,49 @@ def feed(draw: Random) -> Trial:
     return Trial("campaign", json.dumps(scenario).encode(), judge, traits, {"wire": True})
 
 
-def ack_frame(flow: Feed, ack: Dict[str, int]) -> bytes:
-    """The Ack of an acknowledgement."""
-    body = struct.pack("<%dQ" % len(PRIMITIVES), *[ack.get(name, 0) for name in PRIMITIVES])
-    return frame(ACK, flow.version, flow.number, body)
+def output_bytes(ran: Run) -> bytes:
+    """The bytes that a run wrote."""
+    return ran.output.encode("utf-8", "surrogateescape")
+
+
+# ---- an agent outside
+
+
+def drive(draw: Random) -> Trial:
+    """An agent outside, by what it sends: the frames that the flows answer, and the texts of its run."""
+    traits: Traits = set()
+    scenario = inputs.scenario(draw, traits, wanted(draw), 60)
+    frames = inputs.Frames(draw, scenario, traits).all()
+    data = json.dumps(scenario).encode() + draw.choice([b"\n---\n", b"\r\n---\r\n"]) + frames
+    mode = draw.choice(["drive", *driven.MODES])
+    expected = driven.run(mode, data)
+
+    def judge(ran: Run, _run: Runner) -> Optional[str]:
+        if (ran.status, ran.errors) != (expected.status, expected.errors):
+            said = (ran.status, ran.errors.strip(), expected.status, expected.errors.strip())
+            return "status %d, %s; expected is status %d, %s" % said
+        if mode == "drive":
+            written = output_bytes(ran)
+            wrong = written != expected.output
+            return "the frames are %s, and expected is %s" % (written.hex(), expected.output.hex()) if wrong else None
+        text = expected.output.decode()
+        return None if ran.output == text else first_difference(ran.output, text)
+
+    return Trial(mode, data, judge, traits)
+
+
+def refused_drive(draw: Random) -> Trial:
+    """An input whose scenario has one mistake, with frames after it, or that has no line `---`."""
+    traits: Traits = set()
+    scenario = inputs.scenario(draw, traits, (), 10)
+    reason = mistake(draw, scenario, draw.randrange(len(scenario["cases"])))
+    data = json.dumps(scenario).encode()
+    mode = draw.choice(driven.MODES)
+    if chance(draw, 0.2):
+        return Trial(
+            mode, data + draw.choice([b"\n---", b"", b"\n--- \n", b"\n----\n"]), refuses("no separator"), traits
+        )
+    return Trial(mode, data + b"\n---\n" + draw.choice([b"", b"\t", wire.update(0)]), refuses(reason), traits)
 
 
 # the trials by their names, each with how often it is made
@@ -483,4 +498,8 @@ TRIALS: Dict[str, Tuple[Callable[[Random], Trial], int]] = {
     "refused scenario": (refused_scenario, 6),
     "feed": (feed, 10),
     "soak": (soak, 1),
+    "drive": (drive, 12),
+    "refused drive": (refused_drive, 3),
 }
+# the trials of modes that a program may not have, each with one of its modes
+NEEDED = {"drive": "drive", "refused drive": "drive"}
