@@ -121,15 +121,16 @@ def converged(times: Sequence[float], acked: np.ndarray) -> float | None:
 
 def sets_of(scenario: Scenario) -> Dict[str, List[List[int]]]:
     """The numbers of the cases that share a trace, a set for each seed: those with the first queue, delay, loss and
-    mark."""
+    mark. Agents outside aren't among them: they drive a link alone."""
     found, cases = {}, scenario["cases"]
     for trace, shown in shown_cases(scenario).items():
         rest = without_seed(cases[shown[0]])
         seeds: Dict[Any, List[int]] = {}
         for number, case in enumerate(cases):
-            if without_seed(case) == rest:
+            if without_seed(case) == rest and not outside_of(case):
                 seeds.setdefault(case.get("seed"), []).append(number)
-        found[trace] = list(seeds.values())
+        if seeds:
+            found[trace] = list(seeds.values())
     return found
 
 
@@ -144,12 +145,6 @@ def run_all(
     """Runs the senders together over each trace, and keeps the scenarios and the tables in the folder."""
     made = []
     for trace, sets in sets_of(scenario).items():
-    """Runs the senders together over each trace, and keeps scenario and table in the folder. Agents outside aren't
-    among them: they drive a link alone."""
-    for trace, every in shown_cases(scenario).items():
-        numbers = [number for number in every if not outside_of(scenario["cases"][number])]
-        if not numbers:
-            continue
         until_us = windows[trace].until_us or LEAST_US
         seeds = ", " + metrics.counted(len(sets), "seed") if len(sets) > 1 else ""
         progress.say("shared: %s together over %s%s" % (metrics.counted(len(sets[0]), "flow"), trace, seeds))
