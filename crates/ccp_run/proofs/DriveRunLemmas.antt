@@ -27,7 +27,7 @@ module _ (source sink errors : StreamChange) (is_finished : Type 0) (outcome : O
   abbrev sink_of : Frames
   sink_of = frames sink.old sink.new sink.before sink.now
 
-  task : Task
+  abbrev task : Task
   task = Alone Drive
 
   answers : (bytes : List ℕ) → AnswersDrive source_of sink_of is_finished bytes → WritesAnswers task source sink is_finished

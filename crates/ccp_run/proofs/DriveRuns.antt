@@ -3,7 +3,7 @@ use Rattle.std.proofs.Common.{◌≡◌, ◌≢◌, ◌⊎◌, inl, inr, ◌∙�
 use Rattle.std.specs.List.{All}
 use Rattle.std.proofs.lemmas.List.Elements.{All-map}
 use Rattle.ccp_base.specs.Limits.{most_audit_bytes, most_frame_bytes, most_input_bytes}
-use Rattle.ccp_base.specs.Outside.{Known, Rose, Takes, TakesWithin, Appends, AppendsPrefix, Takes-append}
+use Rattle.ccp_base.specs.Outside.{Known, Rose, Takes, TakesWithin, IsAtEnd, Appends, AppendsPrefix, Takes-append}
 use Rattle.feed_core.specs.declared.ending.FeedEnd.{FeedEnd}
 use Rattle.feed_core.specs.declared.ending.FeedEnd.TheVariants as ends
 use Rattle.feed_core.specs.Answering.{Answering, after}
@@ -51,6 +51,49 @@ pub allowed-front : {D : Type 0} (remaining written : D → Known) (is_finished 
 allowed-front remaining written is_finished Follows MayRead begin allowed now taken follows takes same stays open =
     let silent = undivided-silent taken open.none in
     allowed now taken follows takes (subst (Appends (written begin) (written now)) (sym silent) (appends-nothing (written begin) (written now) same)) (inl silent) stays
+
+module _ (source sink : Stream) (is_finished : Type 0) (same : sink.new ≡ sink.old) where
+  unanswered : (bytes : List ℕ) → Takes source.old source.new bytes → drive_written bytes ≡ [] → AnswersDrive source sink is_finished bytes
+  unanswered bytes taken silent = record {
+    taken = taken;
+    written = subst (Appends sink.old sink.new) (sym silent) (appends-nothing sink.old sink.new same);
+    handed = inl silent;
+  }
+
+  -- a run that ends before its frames
+  pub drive-stops : (why : Stop) → StopsOpening source why → IsDriveEnd source sink is_finished (end_at why)
+  drive-stops (stop.Refused refusal) r =
+      let few = r.within in
+      record {
+        bytes = r.bytes;
+        answered = unanswered r.bytes r.taken r.silent;
+        within = omega (arith, few);
+        cause = cause r.cause;
+        over = inl (omega (arith, few));
+      }
+    where
+      cause : ((more : List ℕ) → drive_refusal (r.bytes ++ more) ≡ Some refusal) ⊎ (IsAtEnd source.new × (drive_refusal r.bytes ≡ Some refusal))
+          → ((more : List ℕ) → drive_refusal (r.bytes ++ more) ≡ Some refusal) ⊎ (IsAtEnd source.new × (length r.bytes ≤ most_audit_bytes) × (drive_refusal r.bytes ≡ Some refusal))
+      cause (inl early) = inl early
+      cause (inr at) = inr (at.0, (let few = r.within in omega (arith, few)), at.1)
+  drive-stops stop.ReadFailed f = record {
+    bytes = f.bytes;
+    answered = unanswered f.bytes f.taken f.silent;
+    within = let few = f.within in omega (arith, few);
+    rose = f.rose;
+    goes_on = f.goes_on;
+  }
+  drive-stops stop.NoMemory f = record {
+    front = f.front;
+    rest = f.rest;
+    later = drive_written (f.front ++ f.rest);
+    taken = f.taken;
+    within = let few = f.within in omega (arith, few);
+    written = subst (Appends sink.old sink.new) (sym f.silent) (appends-nothing sink.old sink.new same);
+    handed = inl f.silent;
+    begins = ap (λ w. w ++ drive_written (f.front ++ f.rest)) (sym f.silent);
+    kept = f.kept;
+  }
 
 -- ---- the frames
 

@@ -13,6 +13,7 @@ mod DriveSessions
 pub mod DriveRuns
 pub mod DriveRunLemmas
 pub mod DriveTextRuns
+mod DriveLawLemmas
 mod CompleteRuns
 pub mod ReadLemmas
 mod CodedLemmas

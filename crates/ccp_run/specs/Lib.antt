@@ -27,6 +27,7 @@ pub mod Complete
 pub mod Settled
 pub mod TextLaws
 pub mod SharedLaws
+pub mod DriveLaws
 pub mod Tool
 -- of these two, the contract of a run cites `MakesOutput` and `RefusesAny`, `Ends` and `WritesAll`; the rest, and the
 -- file after them, only private contracts and proofs cite

@@ -1,4 +1,5 @@
 //! The laws of the modes: bytes are an input or have one first refusal, and how modes' outputs agree.
+ghost use Rattle.ccp_run.specs.DriveLaws.{DriveRefusesRest, DriveWritesOn};
 ghost use Rattle.ccp_run.specs.Settled.{AreInputsSettled};
 ghost use Rattle.ccp_run.specs.SharedLaws.{TellsSharedRows};
 ghost use Rattle.ccp_run.specs.TextLaws.{AuditsTimelines, ReadsAcksBack, TellsRows};
@@ -27,4 +28,11 @@ pub fn timeline_row_law()
 /// `shared-timeline`.
 pub fn shared_timeline_rows_law()
     ensures { TellsSharedRows }
+{}
+
+/// A law: what `drive` writes for a front of an input is a front of what it writes for all of it; and frames after an
+/// input change nothing but the Refused that answer them.
+pub fn drive_law()
+    ensures writes_on { DriveWritesOn }
+    ensures refuses_rest { DriveRefusesRest }
 {}

@@ -159,9 +159,14 @@ fn drive_flows<D: Duplex>(
         (D.write_faults duplex.old) (D.write_faults duplex.new))
         (D.is_finished duplex.new) result }
 {
-    let programs = Programs::new(opened.programs.as_slice());
-    let mut session = Session::begin(alloc, &programs, opened.cases);
-    drive_session(alloc, &mut session, rest, opened.place, duplex)
+    let Opened {
+        programs,
+        cases,
+        place,
+    } = opened;
+    let coded = Programs::new(programs.as_slice());
+    let mut session = Session::begin(alloc, &coded, cases);
+    drive_session(alloc, &mut session, rest, place, duplex)
 }
 
 /// Writes the first frame of a session, then answers the frames that begin at a place of the input.
