@@ -92,8 +92,8 @@ module _ (bytes text rest : List ℕ) (is : divided bytes ≡ Some (text, rest))
   head-of =
       let there = divided-at-separator bytes text rest is in
       let front : List ℕ = text ++ there.line in
-      let parts : bytes ≡ front ++ 10 ∷ rest = there.whole ∙ sym (append_assoc text there.line (10 ∷ rest)) in
-      let first = divided-at-first (front ++ 10 ∷ []) text [] (record { line = there.line; separator = there.separator; whole = append_assoc text there.line (10 ∷ []); ended = there.ended }) in
+      let parts : bytes ≡ front ++ 10 ∷ rest = there.whole in
+      let first = divided-at-first (front ++ 10 ∷ []) text [] (record { line = there.line; separator = there.separator; whole = refl; ended = there.ended }) in
       record {
         front = front;
         none = open_front front parts (divided front) refl;
@@ -121,7 +121,7 @@ module _ (bytes text rest : List ℕ) (is : divided bytes ≡ Some (text, rest))
       open_front front parts None at = at
       open_front front parts (Some (first, left)) at =
           let both : (first, left ++ 10 ∷ rest) ≡ (text, rest) = same_Some (first, left ++ 10 ∷ rest) (text, rest) (sym (divided-goes-on front (10 ∷ rest) first left at) ∙ ap divided (sym parts) ∙ is) in
-          let size : length left + (1 + length rest) ≡ length rest = sym (length-append left (10 ∷ rest)) ∙ ap (λ (p : List ℕ × List ℕ). length p.1) both in
+          let size : length left + length (10 ∷ rest) ≡ length rest = sym (length-append left (10 ∷ rest)) ∙ ap (λ (p : List ℕ × List ℕ). length p.1) both in
           absurd (omega (arith, size))
 
 -- ---- the reading of a scenario

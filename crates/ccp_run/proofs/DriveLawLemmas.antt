@@ -105,9 +105,6 @@ module _ {S : Type 0} (answer : AnswerRule S) where
       record { frames' = 0; place' = place; goes = ap (λ xs. fed_no_more (left place (xs ++ more)) state) (none-left place at bytes whole) }
   fed-ends (suc frames) place state bytes more fits at whole = go (λ place state bytes fits. fed-ends frames place state bytes more fits at) (decoded_of bytes) refl whole
     where
-      abbrev Ends : Result Found DecodeFault → Type 0
-      Ends found = (fed_on answer (fed answer frames) place state bytes found).tail ≡ left at []
-
       -- no bytes were left, so the first of more bytes begin here
       none : (found : Result Found DecodeFault) → decoded_of bytes ≡ found → fed_on answer (fed answer frames) place state bytes found ≡ fed_no_more (left place bytes) state → bytes ≡ [] → GoesOn (suc frames) place state bytes more
       none found is nothing empty =
@@ -121,7 +118,7 @@ module _ {S : Type 0} (answer : AnswerRule S) where
           }
 
       go : ((place : ℕ) (state : S) (bytes : List ℕ) → AllBytes bytes → (fed answer frames place state bytes).tail ≡ left at [] → GoesOn frames place state bytes more)
-          → (found : Result Found DecodeFault) → decoded_of bytes ≡ found → Ends found → GoesOn (suc frames) place state bytes more
+          → (found : Result Found DecodeFault) → decoded_of bytes ≡ found → (fed_on answer (fed answer frames) place state bytes found).tail ≡ left at [] → GoesOn (suc frames) place state bytes more
       go again (Ok (message, version, used)) is ends =
           let on = decoded-on bytes more fits (message, version, used) is in
           let first : List ℕ = answer_to answer state message version in
@@ -243,7 +240,7 @@ module _ (bytes more : List ℕ) (fits : AllBytes bytes) where
         let parts : bytes ≡ front ++ rest = head.parts ∙ sym (append_assoc head.front (10 ∷ []) rest) in
         subst AllBytes (ap (drop (length front)) parts ∙ drop-append_seam front rest) (AllBytes-drop (length front) bytes fits)
 
-    place : ℕ
+    abbrev place : ℕ
     place = length bytes - length rest
 
     eaten : place + length rest ≡ length bytes

@@ -30,10 +30,10 @@ use Rattle.ccp_run.proofs.DriveRuns.{drive-ends, flows-are}
 use Rattle.ccp_run.proofs.DriveSessions.{IsSessionOf, frames-hold, opening-holds}
 
 module _ (text : DriveText) (wire : Bool) where
-  abbrev task : Task
+  abbrev pub task : Task
   task = Driven text wire
 
-  abbrev change_of : Stream → StreamChange
+  abbrev pub change_of : Stream → StreamChange
   change_of s = record { old = s.old; new = s.new; before = s.before; now = s.now }
 
   -- ---- no scenario
@@ -56,10 +56,7 @@ module _ (text : DriveText) (wire : Bool) where
   -- ---- frames
 
   module _ (source mid : Known) (rb rm : ℕ) (rest : List ℕ) (opened : Opened) (o : OpensDrive (stream source mid rb rm) rest opened) (new : Known) (rn : ℕ) (sink : Stream) (grown : rb ≤ rm) (grows : rm ≤ rn) where
-    begin : SessionState
-    begin = opening (codes_of opened.programs) opened.cases
-
-    abbrev whole : StreamChange
+    abbrev pub whole : StreamChange
     whole = change_of (stream source new rb rn)
 
     refuses : (refusal : Refusal) → RefusesDrive (stream source new rb rn) sink (Unit {0}) refusal → RefusesStream task whole refusal

@@ -9,8 +9,8 @@ use Rattle.ccp_run.specs.DriveTexts.{AreOf, IsHeardOut, IsTextMade}
 use Rattle.ccp_run.proofs.DriveTextRuns.{unmade, flows-few, flows-own}
 use Rattle.ccp_run.proofs.modes.drive_text.made_of.Goals as goal
 
-pub returns-in_err-hear_out : goal.returns-in_err-hear_out
-returns-in_err-hear_out g c =
+pub returns-in_err-hear_out-clause-made : goal.returns-in_err-hear_out-clause-made
+returns-in_err-hear_out-clause-made g c =
     let coded = c.new-coded.ensures ∙ ap codes_of c.as_slice.ensures in
     let begun : c.begin-session.result ≡ opening (codes_of c.args.opened.programs) c.args.opened.cases = c.begin-session.ensures ∙ ap (λ (codes : Codes). opening codes c.args.opened.cases) coded in
     let source : Stream = stream (g.S.Source.remaining c.args.unheard.now.source.now) (g.S.Source.remaining c.hear_out.new.unheard.source.now) (g.S.Source.faults c.args.unheard.now.source.now) (g.S.Source.faults c.hear_out.new.unheard.source.now) in
