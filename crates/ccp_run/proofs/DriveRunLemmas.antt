@@ -21,13 +21,13 @@ use Rattle.ccp_run.specs.Streams.{StreamChange}
 use Rattle.ccp_run.proofs.RunLemmas.{is_three, ends_done, ends_refused, ends_unread, ends_unwritten, ends_wanting}
 
 module _ (source sink errors : StreamChange) (is_finished : Type 0) (outcome : Outcome) where
-  abbrev source_of : Frames
+  abbrev pub source_of : Frames
   source_of = frames source.old source.new source.before source.now
 
-  abbrev sink_of : Frames
+  abbrev pub sink_of : Frames
   sink_of = frames sink.old sink.new sink.before sink.now
 
-  task : Task
+  abbrev pub task : Task
   task = Alone Drive
 
   answers : (bytes : List ℕ) → AnswersDrive source_of sink_of is_finished bytes → WritesAnswers task source sink is_finished

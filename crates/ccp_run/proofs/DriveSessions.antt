@@ -25,14 +25,14 @@ use Rattle.driven_flow.specs.SessionHolds.{HasPrograms}
 module _ {S : Type 0} (answer : AnswerRule S) (P : S → Type 0) (keeps : (state : S) (message : Message) (version : Version) → P state → P (answer state message version).1) where
   keeps-fed : (frames place : ℕ) (state : S) (bytes : List ℕ) → P state → P (fed answer frames place state bytes).state
   keeps-fed zero place state bytes holds = holds
-  keeps-fed (suc frames) place state bytes holds = on (decoded_of bytes)
+  keeps-fed (suc frames) place state bytes holds = on (λ place state bytes holds. keeps-fed frames place state bytes holds) (decoded_of bytes)
     where
-      on : (found : Result Found DecodeFault) → P (fed_on answer (fed answer frames) place state bytes found).state
-      on (Ok (message, version, used)) =
-          keeps-fed frames (place + used) (answer state message version).1 (drop used bytes) (keeps state message version holds)
-      on (Err (decode.Bad field offset)) = holds
-      on (Err (decode.More needed)) = holds
-      on (Err decode.NoMemory) = holds
+      on : ((place : ℕ) (state : S) (bytes : List ℕ) → P state → P (fed answer frames place state bytes).state) → (found : Result Found DecodeFault) → P (fed_on answer (fed answer frames) place state bytes found).state
+      on again (Ok (message, version, used)) =
+          again (place + used) (answer state message version).1 (drop used bytes) (keeps state message version holds)
+      on again (Err (decode.Bad field offset)) = holds
+      on again (Err (decode.More needed)) = holds
+      on again (Err decode.NoMemory) = holds
 
   pub keeps-frames : (limit place : ℕ) (state : S) (bytes : List ℕ) → P state → P (frames_from answer limit place state bytes).state
   unfolding frames_from
@@ -60,16 +60,16 @@ opening-holds codes cases = record { programs = refl; flow = tt; ended = All-nil
 
 keeps-programs : (most : ℕ) (given : Given) (flow : DrivenState) → (run_for most given flow).programs ≡ flow.programs
 keeps-programs zero given flow = refl
-keeps-programs (suc most) given flow = on (next_of (flow_by flow) flow.case.lag (world_by flow))
+keeps-programs (suc most) given flow = on (λ flow. keeps-programs most given flow) (next_of (flow_by flow) flow.case.lag (world_by flow))
   where
-    on : (next : Option Letter) → (then_on next (after_one given flow) (run_for most given) flow).programs ≡ flow.programs
-    on None = refl
-    on (Some A) = keeps-programs most given (after_one given flow A)
-    on (Some C) = keeps-programs most given (after_one given flow C)
-    on (Some T) = refl
+    on : ((flow : DrivenState) → (run_for most given flow).programs ≡ flow.programs) → (next : Option Letter) → (then_on next (after_one given flow) (run_for most given) flow).programs ≡ flow.programs
+    on again None = refl
+    on again (Some A) = again (after_one given flow A)
+    on again (Some C) = again (after_one given flow C)
+    on again (Some T) = refl
 
 module _ (codes : Codes) (count : ℕ) where
-  Holds : SessionState → Type 0
+  abbrev pub Holds : SessionState → Type 0
   Holds s = IsSessionOf codes count s
 
   turned-holds : (s : SessionState) (given : Given) → Holds s → Holds (turned s given)

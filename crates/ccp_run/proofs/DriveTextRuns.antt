@@ -30,15 +30,15 @@ use Rattle.ccp_run.proofs.DriveRuns.{drive-ends, flows-are}
 use Rattle.ccp_run.proofs.DriveSessions.{IsSessionOf, frames-hold, opening-holds}
 
 module _ (text : DriveText) (wire : Bool) where
-  task : Task
+  abbrev pub task : Task
   task = Driven text wire
 
-  change : Stream → StreamChange
-  change s = record { old = s.old; new = s.new; before = s.before; now = s.now }
+  abbrev pub change_of : Stream → StreamChange
+  change_of s = record { old = s.old; new = s.new; before = s.before; now = s.now }
 
   -- ---- no scenario
 
-  pub text-stops : (source : Stream) (why : Stop) → StopsOpening source why → IsStreamAttempt task (change source) (Err why)
+  pub text-stops : (source : Stream) (why : Stop) → StopsOpening source why → IsStreamAttempt task (change_of source) (Err why)
   text-stops source (stop.Refused refusal) r =
       let few = r.within in
       record {
@@ -47,7 +47,7 @@ module _ (text : DriveText) (wire : Bool) where
         over = inl (record { taken = r.bytes; takes = r.taken; within = omega (arith, few) });
       }
     where
-      cause : ((more : List ℕ) → drive_refusal (r.bytes ++ more) ≡ Some refusal) ⊎ (IsAtEnd source.new × (drive_refusal r.bytes ≡ Some refusal)) → RefusesAny true task (change source) refusal
+      cause : ((more : List ℕ) → drive_refusal (r.bytes ++ more) ≡ Some refusal) ⊎ (IsAtEnd source.new × (drive_refusal r.bytes ≡ Some refusal)) → RefusesAny true task (change_of source) refusal
       cause (inl early) = inl (record { bytes = r.bytes; taken = r.taken; cause = early })
       cause (inr at) = inr (record { bytes = r.bytes; read = record { taken = r.taken; end = at.0 }; short = let few = r.within in omega (arith, few); cause = at.1 })
   text-stops source stop.ReadFailed f = record { rose = f.rose; taken = f.bytes; takes = f.taken; within = let few = f.within in omega (arith, few); goes_on = f.goes_on }
@@ -56,11 +56,8 @@ module _ (text : DriveText) (wire : Bool) where
   -- ---- frames
 
   module _ (source mid : Known) (rb rm : ℕ) (rest : List ℕ) (opened : Opened) (o : OpensDrive (stream source mid rb rm) rest opened) (new : Known) (rn : ℕ) (sink : Stream) (grown : rb ≤ rm) (grows : rm ≤ rn) where
-    begin : SessionState
-    begin = opening (codes_of opened.programs) opened.cases
-
-    whole : StreamChange
-    whole = change (stream source new rb rn)
+    abbrev pub whole : StreamChange
+    whole = change_of (stream source new rb rn)
 
     refuses : (refusal : Refusal) → RefusesDrive (stream source new rb rn) sink (Unit {0}) refusal → RefusesStream task whole refusal
     refuses refusal r = record {
