@@ -145,7 +145,7 @@ module _ (source mid : Known) (rb rm : ℕ) (rest : List ℕ) (opened : Opened) 
       let few = o.within in
       omega (arith, eaten, place, few)
 
-  input-is : (more : List ℕ) → frames.end (rest ++ more) ≡ ends.Whole → IsDriven (o.bytes ++ more) opened.programs
+  pub input-is : (more : List ℕ) → frames.end (rest ++ more) ≡ ends.Whole → IsDriven (o.bytes ++ more) opened.programs
   input-is more whole = record {
     whole = refusal-is more ∙ ap end_refusal whole;
     text = o.text;
@@ -192,7 +192,7 @@ module _ (source mid : Known) (rb rm : ℕ) (rest : List ℕ) (opened : Opened) 
         let place = o.scene.place_is in
         omega (arith, few, eaten, place, few-bytes, length-append o.bytes bytes)
 
-    within-none : (bytes : List ℕ) → length bytes ≤ most_audit_bytes - opened.place - length rest → length (o.bytes ++ bytes) ≤ most_audit_bytes
+    pub within-none : (bytes : List ℕ) → length bytes ≤ most_audit_bytes - opened.place - length rest → length (o.bytes ++ bytes) ≤ most_audit_bytes
     within-none bytes few = let all = within bytes 0 (omega (arith, few)) in omega (arith, all)
 
     refused : (bytes : List ℕ) (frames_end : FeedEnd) (refusal : Refusal) → end_refusal frames_end ≡ Some refusal → ((more : List ℕ) → frames.end (rest ++ (bytes ++ more)) ≡ frames_end)
@@ -270,7 +270,7 @@ module _ (source mid : Known) (rb rm : ℕ) (rest : List ℕ) (opened : Opened) 
         }
       where
         -- what is written for a front that ends behind the line `---`
-        written-at : (some front : List ℕ) → divided front ≡ Some (o.text, some) → (size : ℕ) → length o.bytes ≡ size + (1 + length rest) → length front ≡ size + (1 + length some) → drive_written front ≡ frames.written some
+        written-at : (some front : List ℕ) → divided front ≡ Some (o.text, some) → (size : ℕ) → length o.bytes ≡ size + length (10 ∷ rest) → length front ≡ size + length (10 ∷ some) → drive_written front ≡ frames.written some
         written-at some front is size long short =
             let eaten = o.eaten_is in
             let there = divided-there front o.text some o.place is o.short (omega (arith, eaten, long, short)) (Ok scene) o.scene.scenario.text [] in

@@ -26,7 +26,7 @@ use Rattle.ccp_run.specs.DriveEnds.{RefusesOpening, RefusesDrive, IsDriveEnd, Is
 use Rattle.ccp_run.specs.DriveTexts.{AreOf, IsHeardOut, IsStreamAttempt, IsTextMade, MakesText, RefusesStream}
 use Rattle.ccp_run.specs.Modes.{Task, Driven}
 use Rattle.ccp_run.specs.Streams.{StreamChange}
-use Rattle.ccp_run.proofs.DriveRuns.{drive-ends, flows-are}
+use Rattle.ccp_run.proofs.DriveRuns.{drive-ends, flows-are, input-is, within-none}
 use Rattle.ccp_run.proofs.DriveSessions.{IsSessionOf, frames-hold, opening-holds}
 
 module _ (text : DriveText) (wire : Bool) where
@@ -82,16 +82,16 @@ module _ (text : DriveText) (wire : Bool) where
     -- the output is the text of the flows at the end of the input
     makes : (output : ModeOutput) → MakesText text wire rest opened (stream mid new rm rn) sink output → IsStreamAttempt task whole (Ok output)
     makes output m =
-        let d = drive-ends source mid rb rm rest opened o new rn sink (Unit {0}) m.session grown grows ends.Whole m.whole in
         let there = m.whole.0 in
-        let flows : m.session.ended ≡ driven_flows d.bytes =
+        let bytes : List ℕ = o.bytes ++ there.bytes in
+        let flows : m.session.ended ≡ driven_flows bytes =
         ap (λ (s : SessionState). s.ended) (sym there.state_is) ∙ sym (flows-are source mid rb rm rest opened o there.bytes) in
         record {
-          bytes = d.bytes;
-          read = record { taken = d.answered.taken; end = d.at_end };
-          short = d.within;
+          bytes = bytes;
+          read = record { taken = Takes-append source mid new o.bytes there.bytes o.taken there.answered.taken; end = there.at_end };
+          short = within-none source mid rb rm rest opened o new rn sink (Unit {0}) m.session grown grows there.bytes there.within;
           made = record {
-            input = subst (IsDriven d.bytes) (sym m.kept) d.input;
+            input = subst (IsDriven bytes) (sym m.kept) (input-is source mid rb rm rest opened o there.bytes there.end_is);
             written = m.written ∙ (λ i. drive_text text wire (sym m.kept i) (flows i));
             no_books = m.no_books;
             idle = m.idle;

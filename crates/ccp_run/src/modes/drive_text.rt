@@ -44,7 +44,8 @@ fn drive_output<S: Source>(
     wire: bool,
     unheard: &mut Unheard<S>,
 ) -> Result<ModeOutput, Stop>
-    ensures { Attempts (Task.Driven shown wire)
+    ensures follows { unheard.new.source.ghost_name ≡ unheard.old.source.ghost_name }
+    ensures attempts { Attempts (Task.Driven shown wire)
         (change (S.remaining unheard.old.source.now) (S.remaining unheard.new.source.now)
         (S.faults unheard.old.source.now) (S.faults unheard.new.source.now)) result }
 {
@@ -64,6 +65,7 @@ fn made_of<S: Source>(
 ) -> Result<ModeOutput, Stop>
     requires within { opened.place + length rest.old ≤ most_audit_bytes }
     requires few { length opened.cases ≤ most_cases }
+    ensures follows { unheard.new.source.ghost_name ≡ unheard.old.source.ghost_name }
     ensures reads { S.faults unheard.old.source.now ≤ S.faults unheard.new.source.now }
     ensures made { IsTextMade shown wire rest.old opened
         (stream (S.remaining unheard.old.source.now) (S.remaining unheard.new.source.now)
@@ -92,6 +94,7 @@ fn hear_out<S: Source>(
     unheard: &mut Unheard<S>,
 ) -> Result<(), Stop>
     requires within { place + length rest.old ≤ most_audit_bytes }
+    ensures follows { unheard.new.source.ghost_name ≡ unheard.old.source.ghost_name }
     ensures reads { S.faults unheard.old.source.now ≤ S.faults unheard.new.source.now }
     ensures heard { IsHeardOut rest.old place session.old session.new
         (stream (S.remaining unheard.old.source.now) (S.remaining unheard.new.source.now)

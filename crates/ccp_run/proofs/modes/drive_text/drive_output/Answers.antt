@@ -3,8 +3,8 @@ use Rattle.feed_core.specs.FeedEnds.{Stream, stream}
 use Rattle.ccp_run.proofs.DriveTextRuns.{text-made}
 use Rattle.ccp_run.proofs.modes.drive_text.drive_output.Goals as goal
 
-pub returns : goal.returns
-returns g c =
+pub returns-clause-attempts : goal.returns-clause-attempts
+returns-clause-attempts g c =
     let sink : Stream = stream None None 0 0 in
     record {
       attempt = text-made c.args.shown c.args.wire (g.S.Source.remaining c.args.unheard.now.source.now) (g.S.Source.remaining c.open_drive.new.duplex.source.now)
