@@ -1,6 +1,6 @@
 -- What a driven case says is within its ranges, and the cases that are planned by what cases say are their driven cases.
-use Rattle.std.proofs.Common.{◌≡◌, ◌∙◌, ◌⊎◌, inl, inr, ◌≤◌, ◌<◌, ℕ, zero, suc, ◌+◌, Bool, true, false, leb, Option, Some, None, option_map, List, [], ◌∷◌, map, length, slice_index, subst, refl, sym, ap, arith}
-use Rattle.std.specs.Coded.{le_prop, ×_prop, Π_prop, →_prop}
+use Rattle.std.proofs.Common.{◌≡◌, ◌∙◌, ◌⊎◌, inl, inr, ◌≤◌, ◌<◌, ℕ, suc, ◌+◌, true, false, leb, Option, Some, None, option_map, List, [], ◌∷◌, map, slice_index, subst, refl, ap, arith}
+use Rattle.std.specs.Coded.{le_prop, ×_prop}
 use Rattle.std.specs.List.Sorted.{IsStrictlyIncreasing}
 use Rattle.std.specs.Option.{ForSome}
 use Rattle.std.proofs.lemmas.Bool.Decides.{leb_tells}

@@ -1,5 +1,5 @@
 -- What the texts of driven flows are made of: flows that have the scenario's programs, at the end of their frames.
-use Rattle.std.specs.Prelude.{◌≡◌, ◌⊎◌, ℕ, ◌+◌, ◌-◌, ◌≤◌, Bool, true, Result, Ok, Err, List, [], length, map}
+use Rattle.std.specs.Prelude.{◌≡◌, ◌⊎◌, ℕ, ◌+◌, ◌-◌, ◌≤◌, Bool, Result, Ok, Err, List, [], length, map}
 use Rattle.std.specs.List.{All}
 use Rattle.ccp_base.specs.Limits.{most_audit_bytes}
 use Rattle.ccp_base.specs.Outside.{Known, Rose, Takes, TakesWithin}

@@ -1,4 +1,4 @@
-use Rattle.std.proofs.Common.{List, ℕ, ◌≡◌, ◌∙◌, ap, sym, subst}
+use Rattle.std.proofs.Common.{◌≡◌, ◌∙◌, ap, sym, subst}
 use Rattle.feed_core.specs.Answering.{after}
 use Rattle.feed_core.specs.FeedEnds.{Stream, stream, AllowsAnswered}
 use Rattle.driven_flow.specs.Driven.{Codes, codes_of}
