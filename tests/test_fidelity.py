@@ -258,6 +258,19 @@ def test_kept_figures_are_whole():
         assert len(counts) == 18 * len(senders)
 
 
+def test_other_kept_figures_are_whole():
+    drawn = results.read(FOLDER / "chance.csv", chance.COLUMNS_OF_CHANCE)
+    counts = drawn.groupby(["stack", "sender", "rate", "delay_ms"])["seed"].agg(["size", "nunique"])
+    assert len(counts) == 8 * 4 and (counts == 5).all().all()
+    shared = results.read(FOLDER / "shares.csv", shares.COLUMNS)
+    assert set(shared["group"]) == {one.name for one in shares.GROUPS}
+    sums = shared[shared["stack"] != "linux"].groupby(["stack", "sender", "order", "group"], dropna=False)["share_mean"]
+    assert len(sums.sum()) == 5 * 6 and (abs(sums.sum() - 1) < 1e-4).all()
+    assert abs(shared[shared["stack"] == "linux"]["share_mean"].sum() - 3 * 6) < 1e-3
+    changes = results.read(FOLDER / "spread.csv", spread.COLUMNS)
+    assert len(changes) == 18 * 6 and (changes["runs"] == 35).all()
+
+
 @pytest.mark.parametrize("name", PAGES)
 def test_page_is_made_of_kept_figures(name):
     text = (REPOSITORY / "docs" / name).read_text()

@@ -1,5 +1,5 @@
 -- The frames of an input after a first frame that is written before any is read.
-use Rattle.std.proofs.Common.{◌≡◌, ◌⊎◌, inl, inr, ◌∙◌, ℕ, ◌+◌, ◌-◌, ◌<◌, ◌≤◌, Some, None, List, [], ◌++◌, length, take, rules, arith, ap, sym, subst, refl, append_assoc, append-nil, length-append}
+use Rattle.std.proofs.Common.{◌≡◌, inl, inr, ◌∙◌, ℕ, ◌+◌, ◌-◌, ◌≤◌, Some, None, List, [], ◌++◌, length, take, rules, arith, ap, sym, subst, append_assoc, append-nil, length-append}
 use Rattle.std.proofs.Math.Seq.{take-append-add}
 use Rattle.std.proofs.lemmas.List.{take-append-le}
 use Rattle.ccp_base.specs.Outside.{Known, Rose, Takes, Appends, AppendsPrefix, Appends-append}
@@ -7,6 +7,9 @@ use Rattle.feed_core.specs.declared.ending.FeedEnd.{FeedEnd}
 use Rattle.feed_core.specs.declared.ending.FeedEnd.TheVariants as ends
 use Rattle.feed_core.specs.Answering.{Answering, after}
 use Rattle.feed_core.specs.FeedEnds.{Stream, stream, AreHandedOn, AnswersInput, AllowsAnswered, IsFed, StaysFinished, FeedFailsToWrite}
+use Rattle.feed_core.specs.FeedStops.{StopsAnswer}
+use Rattle.feed_core.specs.declared.answering.Unanswered.{Unanswered}
+use Rattle.feed_core.specs.declared.answering.Unanswered.TheVariants as unanswered
 use Rattle.ccp_run.specs.DriveInputs.{beginning_with}
 
 pub appends-nothing : (old new : Known) → new ≡ old → Appends old new []
@@ -85,6 +88,17 @@ module _ {S : Type 0} (a : Answering S) (first before : List ℕ) (Lacks : List 
     kept = f.kept;
     cause = f.cause;
   }
+
+-- a source that was left alone before
+pub fed-from : {S : Type 0} (a : Answering S) (before : List ℕ) (Lacks : List ℕ → List ℕ → Type 0) (old mid new : Known) (was middle now : ℕ) (sink : Stream) (is_finished : Type 0) (state : S) (end : FeedEnd)
+    → mid ≡ old → middle ≡ was → IsFed a before Lacks (stream mid new middle now) sink is_finished state end → IsFed a before Lacks (stream old new was now) sink is_finished state end
+fed-from a before Lacks old mid new was middle now sink is_finished state end same still fed =
+    subst (λ (k : Known). IsFed a before Lacks (stream k new was now) sink is_finished state end) same
+    (subst (λ (n : ℕ). IsFed a before Lacks (stream mid new n now) sink is_finished state end) still fed)
+
+-- a write of an answer failed
+pub front-of : (before now : ℕ) (old new : Known) (answer : List ℕ) (why : Unanswered) → why ≡ unanswered.Write → StopsAnswer before now old new answer why → Rose before now × AppendsPrefix old new answer
+front-of before now old new answer why is stops = subst (StopsAnswer before now old new answer) is stops
 
 -- the first frame can't be written
 pub first-fails : {S : Type 0} (a : Answering S) (first before : List ℕ) (source source' : Known) (rb rn : ℕ) (old new : Known) (wb wn : ℕ) → source' ≡ source → Rose wb wn → AppendsPrefix old new first

@@ -1,11 +1,11 @@
 -- How an input of `drive` begins: what is written and refused for its text, for the line `---` and for its scenario.
-use Rattle.std.proofs.Common.{◌≡◌, ◌⊎◌, inl, inr, ◌∙◌, ℕ, ◌+◌, ◌-◌, ◌<◌, ◌≤◌, nat_lt, Bool, true, false, cond, Option, Some, None, Result, Ok, Err, List, [], ◌∷◌, ◌++◌, length, arith, ap, sym, subst, refl, append_assoc, append-nil, length-append}
-use Rattle.std.proofs.lemmas.Option.{same_Some, none-some}
+use Rattle.std.proofs.Common.{◌≡◌, ◌⊎◌, inl, inr, ◌∙◌, ℕ, ◌+◌, ◌-◌, ◌<◌, ◌≤◌, nat_lt, true, false, cond, Option, Some, None, Result, Ok, Err, List, [], ◌∷◌, ◌++◌, length, arith, ap, sym, subst, refl, append_assoc, append-nil, length-append}
+use Rattle.std.specs.Prelude.{IfOk, IfErr}
+use Rattle.std.proofs.lemmas.Option.{same_Some}
 use Rattle.std.proofs.lemmas.Bool.Decides.{nat_tests}
-use Rattle.ccp_base.specs.Limits.{most_input_bytes, most_audit_bytes, most_frame_bytes}
+use Rattle.ccp_base.specs.Limits.{most_input_bytes}
 use Rattle.ccp_base.specs.Outside.{Takes, IsAtEnd}
 use Rattle.feed_core.specs.FeedEnds.{Stream}
-use Rattle.driven_flow.specs.declared.front.Front.{Front}
 use Rattle.driven_flow.specs.declared.front.FrontFault.{FrontFault}
 use Rattle.driven_flow.specs.declared.front.FrontFault.TheVariants as fault
 use Rattle.driven_flow.specs.Front.{divided, front_in, IsOverlong, IsDivided, IsFrontFault}
@@ -20,17 +20,17 @@ use Rattle.ccp_run.specs.declared.refusal.Refusal.{Refusal}
 use Rattle.ccp_run.specs.declared.refusal.Refusal.TheVariants as refusal
 use Rattle.ccp_run.specs.declared.stop.Stop.{Stop}
 use Rattle.ccp_run.specs.declared.stop.Stop.TheVariants as stop
-use Rattle.ccp_run.specs.DriveEnds.{IsDrivenScene, OpensDrive, StopsOpening, front_stop}
-use Rattle.ccp_run.specs.DriveInputs.{Beginning, undivided, long, divided_at, with_scene, beginning_at, beginning_of, written_in, drive_written, refusal_in, drive_refusal, IsOpenAt, IsOpenDrive}
+use Rattle.ccp_run.specs.DriveEnds.{IsDrivenScene, IsOpened, OpensDrive, StopsOpening, front_stop}
+use Rattle.ccp_run.specs.DriveInputs.{undivided, long, with_scene, beginning_at, beginning_of, written_in, drive_written, refusal_in, drive_refusal, IsOpenAt}
 use Rattle.ccp_run.specs.Scenes.{StopsScene}
 
-abbrev Parted : Type 0
+abbrev pub Parted : Type 0
 Parted = Option (List ℕ × List ℕ)
 
 -- ---- texts that are too long
 
 -- nothing is written for the input, and it has this refusal
-abbrev Refused : List ℕ → Refusal → Type 0
+abbrev pub Refused : List ℕ → Refusal → Type 0
 Refused bytes why = (drive_written bytes ≡ []) × (drive_refusal bytes ≡ Some why)
 
 overlong-at : (bytes : List ℕ) (parted : Parted) → most_input_bytes < length (front_in bytes parted)
@@ -43,7 +43,7 @@ overlong-at bytes (Some (text, rest)) over =
     let is : beginning_at (length bytes) (Some (text, rest)) ≡ long = ap (λ b. cond b long (with_scene (length bytes - length rest) rest (scene_of Driven text))) more in
     (ap written_in is, ap (refusal_in (length bytes)) is)
 
-overlong : (bytes : List ℕ) → IsOverlong bytes → Refused bytes (refusal.TooLong Input)
+pub overlong : (bytes : List ℕ) → IsOverlong bytes → Refused bytes (refusal.TooLong Input)
 overlong bytes over = overlong-at bytes (divided bytes) over
 
 -- ---- texts without a line `---`
@@ -91,8 +91,8 @@ module _ (bytes text rest : List ℕ) (is : divided bytes ≡ Some (text, rest))
   head-of =
       let there = divided-at-separator bytes text rest is in
       let front : List ℕ = text ++ there.line in
-      let parts : bytes ≡ front ++ 10 ∷ rest = there.whole ∙ sym (append_assoc text there.line (10 ∷ rest)) in
-      let first = divided-at-first (front ++ 10 ∷ []) text [] (record { line = there.line; separator = there.separator; whole = append_assoc text there.line (10 ∷ []); ended = there.ended }) in
+      let parts : bytes ≡ front ++ 10 ∷ rest = there.whole in
+      let first = divided-at-first (front ++ 10 ∷ []) text [] (record { line = there.line; separator = there.separator; whole = refl; ended = there.ended }) in
       record {
         front = front;
         none = open_front front parts (divided front) refl;
@@ -113,14 +113,14 @@ module _ (bytes text rest : List ℕ) (is : divided bytes ≡ Some (text, rest))
           (ap (λ (p : List ℕ × List ℕ). p.0) both, nothing left (omega (arith, size)))
         where
           nothing : (xs : List ℕ) → length xs ≡ 0 → xs ≡ []
-          nothing [] no = refl
-          nothing (x ∷ xs) no = absurd (omega (arith, no))
+          nothing [] size = refl
+          nothing (x ∷ xs) size = absurd (omega (arith, size))
 
       open_front : (front : List ℕ) → bytes ≡ front ++ 10 ∷ rest → (parted : Parted) → divided front ≡ parted → divided front ≡ None
       open_front front parts None at = at
       open_front front parts (Some (first, left)) at =
           let both : (first, left ++ 10 ∷ rest) ≡ (text, rest) = same_Some (first, left ++ 10 ∷ rest) (text, rest) (sym (divided-goes-on front (10 ∷ rest) first left at) ∙ ap divided (sym parts) ∙ is) in
-          let size : length left + (1 + length rest) ≡ length rest = sym (length-append left (10 ∷ rest)) ∙ ap (λ (p : List ℕ × List ℕ). length p.1) both in
+          let size : length left + length (10 ∷ rest) ≡ length rest = sym (length-append left (10 ∷ rest)) ∙ ap (λ (p : List ℕ × List ℕ). length p.1) both in
           absurd (omega (arith, size))
 
 -- ---- the reading of a scenario
@@ -218,3 +218,8 @@ module _ (source : Stream) where
       within = at.few;
       scene = scene;
     }
+
+    -- the scenario was read or not
+    pub opens-or-stops : (result : Result Opened Stop) → IfOk result (IsDrivenScene text eaten) → IfErr result (StopsScene Driven text) → IsOpened source rest result
+    opens-or-stops (Ok opened) ok err = scene-opens opened ok
+    opens-or-stops (Err why) ok err = scene-stops why err

@@ -65,8 +65,8 @@ drive-writes-fronts bytes more = go (divided bytes) refl
         let r = writes-front more (beginning_at (length bytes) (Some (text, frames))) in (
           r.0,
           ap written_in (begins-more bytes more text frames is)
-          ∙ r.1
-          ∙ ap (λ (p : Option (List ℕ × List ℕ)). written_in (beginning_at (length bytes) p) ++ r.0) (sym is),
+              ∙ r.1
+              ∙ ap (λ (p : Option (List ℕ × List ℕ)). written_in (beginning_at (length bytes) p) ++ r.0) (sym is),
         )
 
 -- ---- after a finished run

@@ -1,7 +1,7 @@
 -- A run of `drive`, from how the reading of its input ended and what it then reported.
 use Rattle.std.proofs.Common.{◌≡◌, ◌≢◌, ◌≤◌, ◌⊎◌, inl, inr, ◌∙◌, ℕ, ◌+◌, true, Some, List, [], ◌++◌, length, arith, ap, sym, refl, subst, append-nil}
 use Rattle.ccp_base.specs.Limits.{most_audit_bytes}
-use Rattle.ccp_base.specs.Outside.{Takes, TakesWithin, IsAtEnd}
+use Rattle.ccp_base.specs.Outside.{Takes, IsAtEnd}
 use Rattle.feed_core.specs.FeedEnds.{Stream as Frames, stream as frames}
 use Rattle.ccp_words.specs.declared.mode.Alone.TheVariants.{Drive}
 use Rattle.ccp_run.specs.Modes.{Task, Alone}
@@ -21,13 +21,13 @@ use Rattle.ccp_run.specs.Streams.{StreamChange}
 use Rattle.ccp_run.proofs.RunLemmas.{is_three, ends_done, ends_refused, ends_unread, ends_unwritten, ends_wanting}
 
 module _ (source sink errors : StreamChange) (is_finished : Type 0) (outcome : Outcome) where
-  abbrev source_of : Frames
+  abbrev pub source_of : Frames
   source_of = frames source.old source.new source.before source.now
 
-  abbrev sink_of : Frames
+  abbrev pub sink_of : Frames
   sink_of = frames sink.old sink.new sink.before sink.now
 
-  task : Task
+  abbrev pub task : Task
   task = Alone Drive
 
   answers : (bytes : List ℕ) → AnswersDrive source_of sink_of is_finished bytes → WritesAnswers task source sink is_finished

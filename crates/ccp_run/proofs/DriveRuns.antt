@@ -1,39 +1,34 @@
 -- A run of `drive`, from how its scenario was read and how its frames then ended.
-use Rattle.std.proofs.Common.{◌≡◌, ◌≢◌, ◌⊎◌, inl, inr, ◌∙◌, ℕ, ◌+◌, ◌-◌, ◌<◌, ◌≤◌, Some, None, Ok, List, [], ◌∷◌, ◌++◌, length, map, arith, ap, sym, subst, refl, append_assoc, append-nil, length-append}
+use Rattle.std.proofs.Common.{◌≡◌, ◌⊎◌, inl, inr, ◌∙◌, ℕ, suc, ◌+◌, ◌-◌, ◌≤◌, Some, Ok, List, [], ◌∷◌, ◌++◌, length, map, slice_index_or, arith, ap, sym, subst, refl, append_assoc, append-nil, length-append}
 use Rattle.std.specs.List.{All}
-use Rattle.std.proofs.lemmas.List.Elements.{All-map}
-use Rattle.ccp_base.specs.Limits.{most_audit_bytes, most_frame_bytes, most_input_bytes}
-use Rattle.ccp_base.specs.Outside.{Known, Rose, Takes, TakesWithin, Appends, AppendsPrefix, Takes-append}
+use Rattle.ccp_base.specs.Limits.{most_audit_bytes}
+use Rattle.ccp_base.specs.Outside.{Known, Takes, IsAtEnd, Appends, AppendsPrefix, Takes-append}
 use Rattle.feed_core.specs.declared.ending.FeedEnd.{FeedEnd}
 use Rattle.feed_core.specs.declared.ending.FeedEnd.TheVariants as ends
 use Rattle.feed_core.specs.Answering.{Answering, after}
 use Rattle.feed_core.specs.FeedEnds.{Stream, stream, AreHandedOn, AnswersInput, AllowsAnswered, MayGoOn}
-use Rattle.flow_core.specs.declared.case.Case.{Case}
 use Rattle.reg_compiler.specs.declared.built.Built.{Built}
 use Rattle.reg_compiler.specs.Sources.{sources_of}
 use Rattle.scene_core.specs.CasePlans.{plan_of}
-use Rattle.scene_core.specs.CompiledPrograms.{IsCompiled, AreCompiled}
-use Rattle.scene_members.specs.declared.mode.SceneMode.TheVariants.{Driven}
-use Rattle.scenario_json.specs.Scene.{Scene, scene_with, scene_of}
-use Rattle.driven_flow.specs.DrivenCases.{driven_case}
-use Rattle.driven_flow.specs.Driven.{Codes, DrivenState, ReadsAlike, codes_of}
-use Rattle.driven_flow.specs.Front.{AllowsFront, IsOpen}
+use Rattle.scene_core.specs.CompiledPrograms.{AreCompiled}
+use Rattle.scenario_json.specs.Scene.{Scene, scene_with}
+use Rattle.driven_flow.specs.Driven.{ReadsAlike, codes_of}
+use Rattle.driven_flow.specs.Front.{AllowsFront, divided}
+use Rattle.driven_flow.proofs.FrontLineLemmas.{divided-goes-on}
 use Rattle.driven_flow.specs.Session.{SessionState, opening}
 use Rattle.driven_flow.proofs.DrivenLiftLemmas.{reads-alike}
-use Rattle.ccp_run.specs.declared.drive_end.DriveEnd.{DriveEnd}
-use Rattle.ccp_run.specs.declared.drive_end.DriveEnd.TheVariants as end
 use Rattle.ccp_run.specs.declared.modes.drive.Opened.{Opened}
 use Rattle.ccp_run.specs.declared.refusal.Limit.TheVariants.{Audit}
 use Rattle.ccp_run.specs.declared.refusal.Refusal.{Refusal}
-use Rattle.ccp_run.specs.declared.refusal.Refusal.TheVariants.{TooLong, Frame, FrameCut}
+use Rattle.ccp_run.specs.declared.refusal.Refusal.TheVariants.{TooLong, Frame}
 use Rattle.ccp_run.specs.declared.stop.Stop.{Stop}
 use Rattle.ccp_run.specs.declared.stop.Stop.TheVariants as stop
 use Rattle.ccp_run.specs.Drive.{IsDriven}
 use Rattle.ccp_run.specs.DriveEnds.{AnswersDrive, AllowsDrive, IsDriveEnd, OpensDrive, StopsOpening, IsSessionEnd, end_at, end_in}
-use Rattle.ccp_run.specs.DriveInputs.{Beginning, divided_at, beginning_of, codes_from, begun, driven_by, driving, written_in, drive_written, end_refusal, refusal_in, drive_refusal, IsOpenAt, IsOpenDrive, flows_in, driven_flows}
+use Rattle.ccp_run.specs.DriveInputs.{divided_at, beginning_of, codes_from, begun, driven_by, driving, written_in, drive_written, end_refusal, refusal_in, drive_refusal, IsOpenAt, IsOpenDrive, flows_in, driven_flows}
 use Rattle.ccp_run.proofs.DriveFrames.{appends-nothing, rose-late}
 use Rattle.ccp_run.proofs.DriveFronts.{divided-there, undivided-silent, head-of}
-use Rattle.ccp_run.proofs.DriveSessions.{IsSessionOf, HasCodes, opening-holds, frames-hold}
+use Rattle.ccp_run.proofs.DriveSessions.{IsSessionOf, opening-holds, frames-hold}
 use Rattle.ccp_run.proofs.PlannedLemmas.{planned_all}
 
 -- ---- the codes of programs
@@ -48,17 +43,60 @@ codes-same (program ∷ rest) are =
 -- what is read before the line `---` is open, so nothing is to be written for it
 pub allowed-front : {D : Type 0} (remaining written : D → Known) (is_finished : D → Type 0) (Follows : D → D → Type 0) (MayRead : D → Type 0) (begin : D)
     → AllowsDrive remaining written is_finished Follows MayRead begin → AllowsFront remaining written is_finished Follows MayRead begin
-allowed-front remaining written is_finished Follows MayRead begin allowed now taken follows takes same stays open =
-    let silent = undivided-silent taken open.none in
+allowed-front remaining written is_finished Follows MayRead begin allowed now taken follows takes same stays unread =
+    let silent = undivided-silent taken unread.none in
     allowed now taken follows takes (subst (Appends (written begin) (written now)) (sym silent) (appends-nothing (written begin) (written now) same)) (inl silent) stays
+
+module _ (source sink : Stream) (is_finished : Type 0) (same : sink.new ≡ sink.old) where
+  unanswered : (bytes : List ℕ) → Takes source.old source.new bytes → drive_written bytes ≡ [] → AnswersDrive source sink is_finished bytes
+  unanswered bytes taken silent = record {
+    taken = taken;
+    written = subst (Appends sink.old sink.new) (sym silent) (appends-nothing sink.old sink.new same);
+    handed = inl silent;
+  }
+
+  -- a run that ends before its frames
+  pub drive-stops : (why : Stop) → StopsOpening source why → IsDriveEnd source sink is_finished (end_at why)
+  drive-stops (stop.Refused refusal) r =
+      let few = r.within in
+      record {
+        bytes = r.bytes;
+        answered = unanswered r.bytes r.taken r.silent;
+        within = omega (arith, few);
+        cause = cause r.cause;
+        over = inl (omega (arith, few));
+      }
+    where
+      cause : ((more : List ℕ) → drive_refusal (r.bytes ++ more) ≡ Some refusal) ⊎ (IsAtEnd source.new × (drive_refusal r.bytes ≡ Some refusal))
+          → ((more : List ℕ) → drive_refusal (r.bytes ++ more) ≡ Some refusal) ⊎ (IsAtEnd source.new × (length r.bytes ≤ most_audit_bytes) × (drive_refusal r.bytes ≡ Some refusal))
+      cause (inl early) = inl early
+      cause (inr at) = inr (at.0, (let few = r.within in omega (arith, few)), at.1)
+  drive-stops stop.ReadFailed f = record {
+    bytes = f.bytes;
+    answered = unanswered f.bytes f.taken f.silent;
+    within = let few = f.within in omega (arith, few);
+    rose = f.rose;
+    goes_on = f.goes_on;
+  }
+  drive-stops stop.NoMemory f = record {
+    front = f.front;
+    rest = f.rest;
+    later = drive_written (f.front ++ f.rest);
+    taken = f.taken;
+    within = let few = f.within in omega (arith, few);
+    written = subst (Appends sink.old sink.new) (sym f.silent) (appends-nothing sink.old sink.new same);
+    handed = inl f.silent;
+    begins = ap (λ w. w ++ drive_written (f.front ++ f.rest)) (sym f.silent);
+    kept = f.kept;
+  }
 
 -- ---- the frames
 
 module _ (source mid : Known) (rb rm : ℕ) (rest : List ℕ) (opened : Opened) (o : OpensDrive (stream source mid rb rm) rest opened) where
-  scene : Scene
+  abbrev pub scene : Scene
   scene = scene_with (sources_of opened.programs) (map plan_of o.scene.cases)
 
-  session : SessionState
+  abbrev pub session : SessionState
   session = opening (codes_of opened.programs) opened.cases
 
   begun-is : session ≡ begun scene
@@ -66,7 +104,7 @@ module _ (source mid : Known) (rb rm : ℕ) (rest : List ℕ) (opened : Opened) 
       let cases : opened.cases ≡ _ = o.scene.driven_is ∙ sym (planned_all 0 o.scene.cases o.scene.scenario.flows) in
       λ i. opening (codes-same opened.programs o.scene.compiled i) (cases i)
 
-  abbrev frames : Answering SessionState
+  abbrev pub frames : Answering SessionState
   frames = driven_by session opened.place
 
   begins : (more : List ℕ) → beginning_of (o.bytes ++ more) ≡ divided_at scene opened.place (rest ++ more)
@@ -101,7 +139,7 @@ module _ (source mid : Known) (rb rm : ℕ) (rest : List ℕ) (opened : Opened) 
       let few = o.within in
       omega (arith, eaten, place, few)
 
-  input-is : (more : List ℕ) → frames.end (rest ++ more) ≡ ends.Whole → IsDriven (o.bytes ++ more) opened.programs
+  pub input-is : (more : List ℕ) → frames.end (rest ++ more) ≡ ends.Whole → IsDriven (o.bytes ++ more) opened.programs
   input-is more whole = record {
     whole = refusal-is more ∙ ap end_refusal whole;
     text = o.text;
@@ -110,7 +148,7 @@ module _ (source mid : Known) (rb rm : ℕ) (rest : List ℕ) (opened : Opened) 
     cases = o.scene.cases;
     scenario = o.scene.scenario;
     compiled = o.scene.compiled;
-    alike = subst (All (ReadsAlike opened.programs)) (sym (flows-are more)) (λ k flow at. reads-alike flow opened.programs (sym ((session-of more).ended k flow at)));
+    alike = subst (All (ReadsAlike opened.programs)) (sym (flows-are more)) (λ k flow at. reads-alike (slice_index_or (frames.state (rest ++ more)).ended k flow) opened.programs (sym ((session-of more).ended k flow at)));
   }
 
   -- where a read of its frames is allowed
@@ -129,10 +167,10 @@ module _ (source mid : Known) (rb rm : ℕ) (rest : List ℕ) (opened : Opened) 
       (λ was. stays (kept was))
 
   module _ (new : Known) (rn : ℕ) (sink : Stream) (is_finished : Type 0) (state : SessionState) (grown : rb ≤ rm) (grows : rm ≤ rn) where
-    abbrev whole_source : Stream
+    abbrev pub whole_source : Stream
     whole_source = stream source new rb rn
 
-    abbrev Frames : FeedEnd → Type 0
+    abbrev pub Frames : FeedEnd → Type 0
     Frames end = IsSessionEnd rest opened.place session state (stream mid new rm rn) sink is_finished end
 
     answers : (bytes : List ℕ) → AnswersInput (after rest frames) (stream mid new rm rn) sink is_finished bytes → AnswersDrive whole_source sink is_finished (o.bytes ++ bytes)
@@ -148,7 +186,7 @@ module _ (source mid : Known) (rb rm : ℕ) (rest : List ℕ) (opened : Opened) 
         let place = o.scene.place_is in
         omega (arith, few, eaten, place, few-bytes, length-append o.bytes bytes)
 
-    within-none : (bytes : List ℕ) → length bytes ≤ most_audit_bytes - opened.place - length rest → length (o.bytes ++ bytes) ≤ most_audit_bytes
+    pub within-none : (bytes : List ℕ) → length bytes ≤ most_audit_bytes - opened.place - length rest → length (o.bytes ++ bytes) ≤ most_audit_bytes
     within-none bytes few = let all = within bytes 0 (omega (arith, few)) in omega (arith, all)
 
     refused : (bytes : List ℕ) (frames_end : FeedEnd) (refusal : Refusal) → end_refusal frames_end ≡ Some refusal → ((more : List ℕ) → frames.end (rest ++ (bytes ++ more)) ≡ frames_end)
@@ -207,7 +245,7 @@ module _ (source mid : Known) (rb rm : ℕ) (rest : List ℕ) (opened : Opened) 
         let front : List ℕ = head.front ++ 10 ∷ f.front in
         let parts : o.bytes ++ f.bytes ≡ front ++ f.rest =
         ap (λ xs. xs ++ f.bytes) head.parts ∙ append_assoc head.front (10 ∷ rest) f.bytes ∙ ap (λ xs. head.front ++ 10 ∷ xs) f.parts ∙ sym (append_assoc head.front (10 ∷ f.front) f.rest) in
-        let written : drive_written front ≡ frames.written f.front = written-at f.front front (head.goes f.front) (ap length head.parts ∙ length-append head.front (10 ∷ rest)) (length-append head.front (10 ∷ f.front)) in
+        let written : drive_written front ≡ frames.written f.front = written-at f.front front (head.goes f.front) (length head.front) (ap length head.parts ∙ length-append head.front (10 ∷ rest)) (length-append head.front (10 ∷ f.front)) in
         let all : drive_written (front ++ f.rest) ≡ frames.written (f.front ++ f.rest) = ap drive_written (sym parts) ∙ written-is f.bytes ∙ ap frames.written f.parts in
         record {
           front = front;
@@ -226,8 +264,8 @@ module _ (source mid : Known) (rb rm : ℕ) (rest : List ℕ) (opened : Opened) 
         }
       where
         -- what is written for a front that ends behind the line `---`
-        written-at : (some front : List ℕ) → divided front ≡ Some (o.text, some) → {size : ℕ} → length o.bytes ≡ size + (1 + length rest) → length front ≡ size + (1 + length some) → drive_written front ≡ frames.written some
-        written-at some front is {size} long short =
+        written-at : (some front : List ℕ) → divided front ≡ Some (o.text, some) → (size : ℕ) → length o.bytes ≡ size + length (10 ∷ rest) → length front ≡ size + length (10 ∷ some) → drive_written front ≡ frames.written some
+        written-at some front is size long short =
             let eaten = o.eaten_is in
             let there = divided-there front o.text some o.place is o.short (omega (arith, eaten, long, short)) (Ok scene) o.scene.scenario.text [] in
             ap drive_written (sym (append-nil front))

@@ -1,5 +1,5 @@
 -- What holds of a session at any place of its frames: its programs, and how many flows it has.
-use Rattle.std.proofs.Common.{◌≡◌, ℕ, zero, suc, ◌+◌, ◌-◌, ◌≤◌, Option, Some, None, option_map, Result, Ok, Err, List, [], ◌∷◌, ◌++◌, length, take, drop, arith, ap, sym, subst, refl, ◌∙◌, length-append}
+use Rattle.std.proofs.Common.{◌≡◌, ℕ, zero, suc, ◌+◌, ◌-◌, Option, Some, None, option_map, Result, Ok, Err, List, [], ◌∷◌, length, take, drop, arith, ap, refl, ◌∙◌, length-append}
 use Rattle.std.specs.List.{All}
 use Rattle.std.proofs.lemmas.List.Elements.{All-append, All-cons, All-nil}
 use Rattle.ccp_base.specs.Limits.{most_audit_bytes}
@@ -10,14 +10,14 @@ use Rattle.ccp_messages.specs.declared.fault.DecodeFault.TheVariants as decode
 use Rattle.ccp_messages.specs.Decoding.{Found, decoded_of}
 use Rattle.reply_frames.specs.declared.outline.Version.{Version}
 use Rattle.feed_core.specs.Feed.{Answer}
-use Rattle.feed_core.specs.FeedBytes.{AnswerRule, Fed, fed, fed_on, frames_from}
+use Rattle.feed_core.specs.FeedBytes.{AnswerRule, fed, fed_on, frames_from}
 use Rattle.campaign_core.specs.CampaignWord.{next_of}
 use Rattle.flow_core.specs.declared.letter.Letter.{Letter}
 use Rattle.flow_core.specs.declared.letter.Letter.TheVariants.{A, T, C}
 use Rattle.driven_flow.specs.declared.case.DrivenCase.{DrivenCase}
 use Rattle.driven_flow.specs.declared.refusal.Refusal.{Refusal}
 use Rattle.driven_flow.specs.Driven.{Codes, DrivenState, Given, flow_by, world_by, left_of}
-use Rattle.driven_flow.specs.Session.{SessionState, opening, hear, heard, heard_as, accepted, turned, turned_by, gone_on, stopped, stopped_by, reported, refusal, with_ended, after_one, then_on, run_for, run_on}
+use Rattle.driven_flow.specs.Session.{SessionState, opening, hear, heard, heard_as, turned, turned_by, gone_on, stopped, stopped_by, reported, refusal, with_ended, after_one, then_on, run_for, run_on}
 use Rattle.driven_flow.specs.SessionHolds.{HasPrograms}
 
 -- ---- what frames keep
@@ -25,14 +25,14 @@ use Rattle.driven_flow.specs.SessionHolds.{HasPrograms}
 module _ {S : Type 0} (answer : AnswerRule S) (P : S → Type 0) (keeps : (state : S) (message : Message) (version : Version) → P state → P (answer state message version).1) where
   keeps-fed : (frames place : ℕ) (state : S) (bytes : List ℕ) → P state → P (fed answer frames place state bytes).state
   keeps-fed zero place state bytes holds = holds
-  keeps-fed (suc frames) place state bytes holds = on (decoded_of bytes)
+  keeps-fed (suc frames) place state bytes holds = on (λ place state bytes holds. keeps-fed frames place state bytes holds) (decoded_of bytes)
     where
-      on : (found : Result Found DecodeFault) → P (fed_on answer (fed answer frames) place state bytes found).state
-      on (Ok (message, version, used)) =
-          keeps-fed frames (place + used) (answer state message version).1 (drop used bytes) (keeps state message version holds)
-      on (Err (decode.Bad field offset)) = holds
-      on (Err (decode.More needed)) = holds
-      on (Err decode.NoMemory) = holds
+      on : ((place : ℕ) (state : S) (bytes : List ℕ) → P state → P (fed answer frames place state bytes).state) → (found : Result Found DecodeFault) → P (fed_on answer (fed answer frames) place state bytes found).state
+      on again (Ok (message, version, used)) =
+          again (place + used) (answer state message version).1 (drop used bytes) (keeps state message version holds)
+      on again (Err (decode.Bad field offset)) = holds
+      on again (Err (decode.More needed)) = holds
+      on again (Err decode.NoMemory) = holds
 
   pub keeps-frames : (limit place : ℕ) (state : S) (bytes : List ℕ) → P state → P (frames_from answer limit place state bytes).state
   unfolding frames_from
@@ -60,16 +60,16 @@ opening-holds codes cases = record { programs = refl; flow = tt; ended = All-nil
 
 keeps-programs : (most : ℕ) (given : Given) (flow : DrivenState) → (run_for most given flow).programs ≡ flow.programs
 keeps-programs zero given flow = refl
-keeps-programs (suc most) given flow = on (next_of (flow_by flow) flow.case.lag (world_by flow))
+keeps-programs (suc most) given flow = on (λ flow. keeps-programs most given flow) (next_of (flow_by flow) flow.case.lag (world_by flow))
   where
-    on : (next : Option Letter) → (then_on next (after_one given flow) (run_for most given) flow).programs ≡ flow.programs
-    on None = refl
-    on (Some A) = keeps-programs most given (after_one given flow A)
-    on (Some C) = keeps-programs most given (after_one given flow C)
-    on (Some T) = refl
+    on : ((flow : DrivenState) → (run_for most given flow).programs ≡ flow.programs) → (next : Option Letter) → (then_on next (after_one given flow) (run_for most given) flow).programs ≡ flow.programs
+    on again None = refl
+    on again (Some A) = again (after_one given flow A)
+    on again (Some C) = again (after_one given flow C)
+    on again (Some T) = refl
 
 module _ (codes : Codes) (count : ℕ) where
-  Holds : SessionState → Type 0
+  abbrev pub Holds : SessionState → Type 0
   Holds s = IsSessionOf codes count s
 
   turned-holds : (s : SessionState) (given : Given) → Holds s → Holds (turned s given)

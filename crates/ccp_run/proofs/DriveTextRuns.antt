@@ -1,16 +1,13 @@
 -- The text of driven flows, from how their scenario was read and how their frames then ended.
-use Rattle.std.proofs.Common.{◌≡◌, ◌≢◌, ◌≤◌, ◌⊎◌, inl, inr, ◌∙◌, ℕ, ◌+◌, ◌-◌, Bool, true, Some, None, Result, Ok, Err, List, [], ◌++◌, length, map, arith, ap, sym, refl, subst, append-nil, length-append}
-use Rattle.std.specs.List.{All}
+use Rattle.std.proofs.Common.{◌≡◌, ◌≤◌, ◌⊎◌, inl, inr, ◌∙◌, ℕ, ◌+◌, ◌-◌, Bool, true, Some, Result, Ok, Err, List, [], ◌++◌, length, arith, ap, sym, subst, length-append}
 use Rattle.ccp_base.specs.Limits.{most_audit_bytes, most_cases}
-use Rattle.ccp_base.specs.Outside.{Known, Takes, TakesWithin, IsAtEnd, Takes-append}
+use Rattle.ccp_base.specs.Outside.{Known, TakesWithin, IsAtEnd, Takes-append}
 use Rattle.ccp_words.specs.declared.mode.DriveText.{DriveText}
-use Rattle.reg_compiler.specs.declared.built.Built.{Built}
 use Rattle.feed_core.specs.declared.ending.FeedEnd.{FeedEnd}
 use Rattle.feed_core.specs.declared.ending.FeedEnd.TheVariants as ends
 use Rattle.feed_core.specs.FeedEnds.{Stream, stream}
-use Rattle.driven_flow.specs.Driven.{DrivenState, codes_of}
+use Rattle.driven_flow.specs.Driven.{codes_of}
 use Rattle.driven_flow.specs.Session.{SessionState, opening}
-use Rattle.ccp_run.specs.declared.drive_end.DriveEnd.{DriveEnd}
 use Rattle.ccp_run.specs.declared.drive_end.DriveEnd.TheVariants as drive
 use Rattle.ccp_run.specs.declared.modes.drive.Opened.{Opened}
 use Rattle.ccp_run.specs.declared.outcome.ModeOutput.{ModeOutput}
@@ -22,23 +19,23 @@ use Rattle.ccp_run.specs.declared.stop.Stop.TheVariants as stop
 use Rattle.ccp_run.specs.Attempts.{RefusesAny}
 use Rattle.ccp_run.specs.Drive.{IsDriven, drive_text}
 use Rattle.ccp_run.specs.DriveInputs.{drive_refusal, driven_by, driven_flows}
-use Rattle.ccp_run.specs.DriveEnds.{RefusesOpening, RefusesDrive, IsDriveEnd, IsSessionEnd, OpensDrive, StopsOpening, end_at, end_in}
+use Rattle.ccp_run.specs.DriveEnds.{RefusesDrive, IsDriveEnd, IsSessionEnd, OpensDrive, StopsOpening, end_at, end_in}
 use Rattle.ccp_run.specs.DriveTexts.{AreOf, IsHeardOut, IsStreamAttempt, IsTextMade, MakesText, RefusesStream}
 use Rattle.ccp_run.specs.Modes.{Task, Driven}
 use Rattle.ccp_run.specs.Streams.{StreamChange}
-use Rattle.ccp_run.proofs.DriveRuns.{drive-ends, flows-are}
+use Rattle.ccp_run.proofs.DriveRuns.{drive-ends, flows-are, input-is, within-none}
 use Rattle.ccp_run.proofs.DriveSessions.{IsSessionOf, frames-hold, opening-holds}
 
 module _ (text : DriveText) (wire : Bool) where
-  task : Task
+  abbrev pub task : Task
   task = Driven text wire
 
-  change : Stream → StreamChange
-  change s = record { old = s.old; new = s.new; before = s.before; now = s.now }
+  abbrev pub change_of : Stream → StreamChange
+  change_of s = record { old = s.old; new = s.new; before = s.before; now = s.now }
 
   -- ---- no scenario
 
-  pub text-stops : (source : Stream) (why : Stop) → StopsOpening source why → IsStreamAttempt task (change source) (Err why)
+  pub text-stops : (source : Stream) (why : Stop) → StopsOpening source why → IsStreamAttempt task (change_of source) (Err why)
   text-stops source (stop.Refused refusal) r =
       let few = r.within in
       record {
@@ -47,7 +44,7 @@ module _ (text : DriveText) (wire : Bool) where
         over = inl (record { taken = r.bytes; takes = r.taken; within = omega (arith, few) });
       }
     where
-      cause : ((more : List ℕ) → drive_refusal (r.bytes ++ more) ≡ Some refusal) ⊎ (IsAtEnd source.new × (drive_refusal r.bytes ≡ Some refusal)) → RefusesAny true task (change source) refusal
+      cause : ((more : List ℕ) → drive_refusal (r.bytes ++ more) ≡ Some refusal) ⊎ (IsAtEnd source.new × (drive_refusal r.bytes ≡ Some refusal)) → RefusesAny true task (change_of source) refusal
       cause (inl early) = inl (record { bytes = r.bytes; taken = r.taken; cause = early })
       cause (inr at) = inr (record { bytes = r.bytes; read = record { taken = r.taken; end = at.0 }; short = let few = r.within in omega (arith, few); cause = at.1 })
   text-stops source stop.ReadFailed f = record { rose = f.rose; taken = f.bytes; takes = f.taken; within = let few = f.within in omega (arith, few); goes_on = f.goes_on }
@@ -56,11 +53,8 @@ module _ (text : DriveText) (wire : Bool) where
   -- ---- frames
 
   module _ (source mid : Known) (rb rm : ℕ) (rest : List ℕ) (opened : Opened) (o : OpensDrive (stream source mid rb rm) rest opened) (new : Known) (rn : ℕ) (sink : Stream) (grown : rb ≤ rm) (grows : rm ≤ rn) where
-    begin : SessionState
-    begin = opening (codes_of opened.programs) opened.cases
-
-    whole : StreamChange
-    whole = change (stream source new rb rn)
+    abbrev pub whole : StreamChange
+    whole = change_of (stream source new rb rn)
 
     refuses : (refusal : Refusal) → RefusesDrive (stream source new rb rn) sink (Unit {0}) refusal → RefusesStream task whole refusal
     refuses refusal r = record {
@@ -85,16 +79,16 @@ module _ (text : DriveText) (wire : Bool) where
     -- the output is the text of the flows at the end of the input
     makes : (output : ModeOutput) → MakesText text wire rest opened (stream mid new rm rn) sink output → IsStreamAttempt task whole (Ok output)
     makes output m =
-        let d = drive-ends source mid rb rm rest opened o new rn sink (Unit {0}) m.session grown grows ends.Whole m.whole in
         let there = m.whole.0 in
-        let flows : m.session.ended ≡ driven_flows d.bytes =
+        let bytes : List ℕ = o.bytes ++ there.bytes in
+        let flows : m.session.ended ≡ driven_flows bytes =
         ap (λ (s : SessionState). s.ended) (sym there.state_is) ∙ sym (flows-are source mid rb rm rest opened o there.bytes) in
         record {
-          bytes = d.bytes;
-          read = record { taken = d.answered.taken; end = d.at_end };
-          short = d.within;
+          bytes = bytes;
+          read = record { taken = Takes-append source mid new o.bytes there.bytes o.taken there.answered.taken; end = there.at_end };
+          short = within-none source mid rb rm rest opened o new rn sink (Unit {0}) m.session grown grows there.bytes there.within;
           made = record {
-            input = subst (IsDriven d.bytes) (sym m.kept) d.input;
+            input = subst (IsDriven bytes) (sym m.kept) (input-is source mid rb rm rest opened o there.bytes there.end_is);
             written = m.written ∙ (λ i. drive_text text wire (sym m.kept i) (flows i));
             no_books = m.no_books;
             idle = m.idle;

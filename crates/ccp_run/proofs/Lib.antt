@@ -13,6 +13,7 @@ mod DriveSessions
 pub mod DriveRuns
 pub mod DriveRunLemmas
 pub mod DriveTextRuns
+mod DriveLawLemmas
 mod CompleteRuns
 pub mod ReadLemmas
 mod CodedLemmas
@@ -24,7 +25,6 @@ mod AcksBackLemmas
 mod AlikeLemmas
 pub mod PlannedLemmas
 mod RowLaw
-mod DriveLawLemmas
 mod AuditedLemmas
 pub mod SharedLemmas
 pub mod SeriesLemmas

@@ -1,8 +1,8 @@
 -- What the texts of driven flows are made of: flows that have the scenario's programs, at the end of their frames.
-use Rattle.std.specs.Prelude.{◌≡◌, ◌⊎◌, ℕ, ◌+◌, ◌-◌, ◌≤◌, Bool, true, Result, Ok, Err, List, length}
+use Rattle.std.specs.Prelude.{◌≡◌, ◌⊎◌, ℕ, ◌+◌, ◌-◌, ◌≤◌, Bool, Result, Ok, Err, List, [], length, map}
 use Rattle.std.specs.List.{All}
 use Rattle.ccp_base.specs.Limits.{most_audit_bytes}
-use Rattle.ccp_base.specs.Outside.{Rose, Takes, TakesWithin}
+use Rattle.ccp_base.specs.Outside.{Known, Rose, Takes, TakesWithin}
 use Rattle.ccp_words.specs.declared.mode.DriveText.{DriveText}
 use Rattle.reg_compiler.specs.declared.built.Built.{Built}
 use Rattle.driven_flow.specs.Driven.{DrivenState, codes_of}
@@ -19,7 +19,9 @@ use Rattle.ccp_run.specs.declared.stop.Stop.TheVariants as stop
 use Rattle.ccp_run.specs.Attempts.{MakesOutput, RefusesAny}
 use Rattle.ccp_run.specs.Modes.{Task, limit_in, limit_of, is_stream, GoesOn}
 use Rattle.ccp_run.specs.DriveEnds.{IsSessionEnd, IsFlowsEnd, end_at, end_in}
-use Rattle.ccp_run.specs.Drive.{drive_text}
+use Rattle.campaign_report.specs.AcksText.{flows_text}
+use Rattle.live_lines.specs.FlowLabels.{own}
+use Rattle.ccp_run.specs.Drive.{drive_text, flow_acks, flow_names}
 use Rattle.ccp_run.specs.Streams.{StreamChange}
 
 -- the flow has the codes of these programs, and so have all of these flows
@@ -29,7 +31,17 @@ IsOf programs flow = codes_of programs ≡ flow.programs
 abbrev pub AreOf : List (ℕ × Built) → List DrivenState → Type 0
 AreOf programs flows = All (IsOf programs) flows
 
+-- the lines of the acknowledgements of flows, numbered from this one on
+abbrev pub acks_from : ℕ → List (ℕ × Built) → List DrivenState → List ℕ
+acks_from number programs flows =
+    flows_text number (flow_names flows) (map (λ acks. own) (map (flow_acks programs) flows))
+    (map (flow_acks programs) flows)
+
 -- ---- an input that is judged as it comes, and whose output is written at its end
+
+-- a source over a call, by its bytes and its counts of faults before and after
+abbrev pub change : Known → Known → ℕ → ℕ → StreamChange
+change old new before now = record { old = old; new = new; before = before; now = now }
 
 -- a refusal, after at most one byte more than the limit was taken
 pub record RefusesStream (task : Task) (source : StreamChange) (refusal : Refusal) : Type 0 where
@@ -50,6 +62,10 @@ IsStreamAttempt task source (Ok output) = MakesOutput task source output
 IsStreamAttempt task source (Err (stop.Refused refusal)) = RefusesStream task source refusal
 IsStreamAttempt task source (Err stop.ReadFailed) = FailsToReadStream task source
 IsStreamAttempt task source (Err stop.NoMemory) = TakesWithin (limit_of task) source.old source.new
+
+-- the same as one fact
+pub record Attempts (task : Task) (source : StreamChange) (made : Result ModeOutput Stop) : Type 0 where
+  pub attempt : IsStreamAttempt task source made
 
 -- ---- its frames
 

@@ -29,6 +29,7 @@ soak_rules number = record {
   limit = Input;
   is_read = false;
   is_stream = false;
+  is_answered = false;
   answers_before = λ _. [];
   GoesOn = λ _. Unit {0};
   IsInput = λ _. Unit {0};

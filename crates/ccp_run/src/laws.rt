@@ -1,4 +1,5 @@
 //! The laws of the modes: bytes are an input or have one first refusal, and how modes' outputs agree.
+ghost use Rattle.ccp_run.specs.DriveLaws.{DriveEndsForGood, DriveWritesFronts};
 ghost use Rattle.ccp_run.specs.Settled.{AreInputsSettled};
 ghost use Rattle.ccp_run.specs.SharedLaws.{TellsSharedRows};
 ghost use Rattle.ccp_run.specs.TextLaws.{AuditsTimelines, ReadsAcksBack, TellsRows};
@@ -27,4 +28,11 @@ pub fn timeline_row_law()
 /// `shared-timeline`.
 pub fn shared_timeline_rows_law()
     ensures { TellsSharedRows }
+{}
+
+/// A law: what `drive` writes for the first bytes of an input is a front of what it writes for the whole; and what
+/// follows a finished run leaves the flows as they are, and is answered by the Refused of its frames alone.
+pub fn drive_law()
+    ensures fronts { DriveWritesFronts }
+    ensures ended { DriveEndsForGood }
 {}

@@ -3,7 +3,6 @@
 
 pub mod calls;
 mod drive_end;
-mod drive_laws;
 mod ending;
 mod laws;
 mod modes;
@@ -19,10 +18,10 @@ mod unheard;
 
 pub use ccp_words::{Alone, DriveText, ToolMode};
 pub use drive_end::DriveEnd;
-pub use drive_laws::drive_law;
 pub use feed_core::{Epoch, Feed, FeedEnd, Flow};
 pub use laws::{
-    acks_read_back_law, input_law, shared_timeline_rows_law, timeline_audited_law, timeline_row_law,
+    acks_read_back_law, drive_law, input_law, shared_timeline_rows_law, timeline_audited_law,
+    timeline_row_law,
 };
 pub use outcome::{ModeOutput, Outcome};
 pub use refusal::{Limit, Refusal};

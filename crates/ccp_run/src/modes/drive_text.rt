@@ -5,9 +5,8 @@ ghost use Rattle.ccp_base.specs.Limits.{most_audit_bytes, most_cases};
 ghost use Rattle.campaign_report.specs.AcksText.{own_acks_text, own_flow_text};
 ghost use Rattle.feed_core.specs.FeedEnds.{stream};
 ghost use Rattle.ccp_run.specs.Drive.{drive_text, flow_acks, flow_names, flow_part, flow_parts, flow_row};
-ghost use Rattle.ccp_run.specs.DriveTexts.{AreOf, IsHeardOut, IsOf, IsStreamAttempt, IsTextMade};
+ghost use Rattle.ccp_run.specs.DriveTexts.{acks_from, change, Attempts, AreOf, IsHeardOut, IsOf, IsTextMade};
 ghost use Rattle.ccp_run.specs.Modes.{Task};
-ghost use Rattle.ccp_run.specs.Streams.{stream_change};
 
 use crate::drive_end::DriveEnd;
 use crate::modes::common::frames;
@@ -31,7 +30,8 @@ pub fn read_drive<S: Source>(
     wire: bool,
     source: &mut S,
 ) -> Result<ModeOutput, Stop>
-    ensures { IsStreamAttempt (Task.Driven shown wire) (stream_change S.remaining S.faults source.old source.new) result }
+    ensures { Attempts (Task.Driven shown wire)
+        (change (S.remaining source.old) (S.remaining source.new) (S.faults source.old) (S.faults source.new)) result }
 {
     let mut unheard = Unheard { source };
     drive_output(alloc, shown, wire, &mut unheard)
@@ -44,8 +44,10 @@ fn drive_output<S: Source>(
     wire: bool,
     unheard: &mut Unheard<S>,
 ) -> Result<ModeOutput, Stop>
-    ensures { IsStreamAttempt (Task.Driven shown wire)
-        (stream_change S.remaining S.faults unheard.old.source.now unheard.new.source.now) result }
+    ensures follows { unheard.new.source.ghost_name ≡ unheard.old.source.ghost_name }
+    ensures attempts { Attempts (Task.Driven shown wire)
+        (change (S.remaining unheard.old.source.now) (S.remaining unheard.new.source.now)
+        (S.faults unheard.old.source.now) (S.faults unheard.new.source.now)) result }
 {
     let mut rest = Rest::new();
     let opened = open_drive(alloc, unheard, &mut rest)?;
@@ -63,7 +65,9 @@ fn made_of<S: Source>(
 ) -> Result<ModeOutput, Stop>
     requires within { opened.place + length rest.old ≤ most_audit_bytes }
     requires few { length opened.cases ≤ most_cases }
-    ensures { IsTextMade shown wire rest.old opened
+    ensures follows { unheard.new.source.ghost_name ≡ unheard.old.source.ghost_name }
+    ensures reads { S.faults unheard.old.source.now ≤ S.faults unheard.new.source.now }
+    ensures made { IsTextMade shown wire rest.old opened
         (stream (S.remaining unheard.old.source.now) (S.remaining unheard.new.source.now)
         (S.faults unheard.old.source.now) (S.faults unheard.new.source.now))
         (stream None None 0 0) result }
@@ -90,7 +94,9 @@ fn hear_out<S: Source>(
     unheard: &mut Unheard<S>,
 ) -> Result<(), Stop>
     requires within { place + length rest.old ≤ most_audit_bytes }
-    ensures { IsHeardOut rest.old place session.old session.new
+    ensures follows { unheard.new.source.ghost_name ≡ unheard.old.source.ghost_name }
+    ensures reads { S.faults unheard.old.source.now ≤ S.faults unheard.new.source.now }
+    ensures heard { IsHeardOut rest.old place session.old session.new
         (stream (S.remaining unheard.old.source.now) (S.remaining unheard.new.source.now)
         (S.faults unheard.old.source.now) (S.faults unheard.new.source.now))
         (stream None None 0 0) result }
@@ -146,10 +152,8 @@ fn flow_names(alloc: Global, flows: &[DrivenFlow]) -> Result<Names, NoMemory>
     ensures names { IfOk result (λ names. names ≡ flow_names flows.now) }
 {
     let mut names = Names::new(alloc);
-    let mut left = flows;
-    while let Some((flow, rest)) = left.split_first() {
+    for flow in flows {
         names.push(flow.case().name)?;
-        left = rest;
     }
     Ok(names)
 }
@@ -160,10 +164,8 @@ fn flow_rows(alloc: Global, programs: &Builts, flows: &[DrivenFlow]) -> Result<R
     ensures rows { IfOk result (λ rows. rows ≡ map (flow_row programs.now) flows.now) }
 {
     let mut rows = Rows::new(alloc);
-    let mut left = flows;
-    while let Some((flow, rest)) = left.split_first() {
+    for flow in flows {
         rows.push(flow_row(programs, flow))?;
-        left = rest;
     }
     Ok(rows)
 }
@@ -198,10 +200,8 @@ fn put_parts(text: &mut Bytes, programs: &Builts, flows: &[DrivenFlow]) -> Resul
     requires own { AreOf programs.now flows.now }
     ensures { OnOk result (text.new ≡ text.old ++ flow_parts programs.now flows.now) }
 {
-    let mut left = flows;
-    while let Some((flow, rest)) = left.split_first() {
+    for flow in flows {
         put_flow_part(text, programs.as_slice(), flow)?;
-        left = rest;
     }
     Ok(())
 }
@@ -222,15 +222,12 @@ fn acks_text(alloc: Global, programs: &Builts, flows: &[DrivenFlow]) -> Result<B
 fn put_acks(text: &mut Bytes, programs: &Builts, flows: &[DrivenFlow]) -> Result<(), NoMemory>
     requires few { length flows.now ≤ most_cases }
     requires own { AreOf programs.now flows.now }
-    ensures { OnOk result (text.new
-        ≡ text.old ++ own_acks_text (flow_names flows.now) (map (flow_acks programs.now) flows.now)) }
+    ensures { OnOk result (text.new ≡ text.old ++ acks_from 0 programs.now flows.now) }
 {
     let mut number = 0;
-    let mut left = flows;
-    while let Some((flow, rest)) = left.split_first() {
+    for flow in flows {
         put_flow_acks(text, number, programs, flow)?;
         number += 1;
-        left = rest;
     }
     Ok(())
 }

@@ -1,8 +1,8 @@
 use Rattle.std.proofs.Common.{ap, refl, sym, subst}
-use Rattle.ccp_run.specs.Modes.{Task, Live, Campaign, Soak, Rollout, Shared, Timeline, Acks, SharedTimeline, SharedAcks, task_in}
+use Rattle.ccp_run.specs.Modes.{Task, Live, Campaign, Soak, Rollout, Shared, Timeline, Acks, SharedTimeline, SharedAcks, Driven, task_in}
 use Rattle.ccp_run.specs.Run.{IsRun}
 use Rattle.ccp_run.specs.Streams.{StreamChange, stream_change}
-use Rattle.ccp_run.proofs.RunLemmas.{run_of}
+use Rattle.ccp_run.proofs.RunLemmas.{run_of, run_of_stream}
 use Rattle.ccp_run.proofs.modes.run_asked.Goals as goal
 
 pub returns-in-Live : goal.returns-in-Live
@@ -95,3 +95,13 @@ returns-in-SharedAcks g c =
     subst (λ (task : Task). IsRun task source sink errors is_finished c.end-in-SharedAcks.result) (sym (ap (λ mode. task_in mode c.args.asked) c.in-SharedAcks.is))
     (run_of (SharedAcks) refl source sink errors is_finished c.end-in-SharedAcks.result c.read_shared_acks-made.result
     c.read_shared_acks-made.ensures c.end-in-SharedAcks.ensures)
+
+pub returns-in-Driven : goal.returns-in-Driven
+returns-in-Driven g c =
+    let source : StreamChange = stream_change g.S.Source.remaining g.S.Source.faults c.args.source.now c.read_drive-made.new.source in
+    let sink : StreamChange = stream_change g.K.Sink.written g.K.Sink.faults c.args.sink.now c.end-in-Driven.new.sink in
+    let errors : StreamChange = stream_change g.E.Sink.written g.E.Sink.faults c.args.errors.now c.end-in-Driven.new.errors in
+    let is_finished = g.K.Sink.is_finished c.end-in-Driven.new.sink in
+    subst (λ (task : Task). IsRun task source sink errors is_finished c.end-in-Driven.result) (sym (ap (λ mode. task_in mode c.args.asked) c.in-Driven.is))
+    (run_of_stream (Driven c.in-Driven.shown c.args.asked.wire) refl refl source sink errors is_finished c.end-in-Driven.result c.read_drive-made.result
+    c.read_drive-made.ensures.attempt c.end-in-Driven.ensures)

@@ -1,5 +1,5 @@
 use Rattle.ccp_run.proofs.DriveLawLemmas.{drive-writes-fronts, drive-ends-for-good}
-use Rattle.ccp_run.proofs.drive_laws.drive_law.Goals as goal
+use Rattle.ccp_run.proofs.laws.drive_law.Goals as goal
 
 pub returns-clause-fronts : goal.returns-clause-fronts
 returns-clause-fronts c = drive-writes-fronts
