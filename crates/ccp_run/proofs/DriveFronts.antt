@@ -1,12 +1,11 @@
 -- How an input of `drive` begins: what is written and refused for its text, for the line `---` and for its scenario.
-use Rattle.std.proofs.Common.{◌≡◌, ◌⊎◌, inl, inr, ◌∙◌, ℕ, ◌+◌, ◌-◌, ◌<◌, ◌≤◌, nat_lt, Bool, true, false, cond, Option, Some, None, Result, Ok, Err, List, [], ◌∷◌, ◌++◌, length, arith, ap, sym, subst, refl, append_assoc, append-nil, length-append}
+use Rattle.std.proofs.Common.{◌≡◌, ◌⊎◌, inl, inr, ◌∙◌, ℕ, ◌+◌, ◌-◌, ◌<◌, ◌≤◌, nat_lt, true, false, cond, Option, Some, None, Result, Ok, Err, List, [], ◌∷◌, ◌++◌, length, arith, ap, sym, subst, refl, append_assoc, append-nil, length-append}
 use Rattle.std.specs.Prelude.{IfOk, IfErr}
-use Rattle.std.proofs.lemmas.Option.{same_Some, none-some}
+use Rattle.std.proofs.lemmas.Option.{same_Some}
 use Rattle.std.proofs.lemmas.Bool.Decides.{nat_tests}
-use Rattle.ccp_base.specs.Limits.{most_input_bytes, most_audit_bytes, most_frame_bytes}
+use Rattle.ccp_base.specs.Limits.{most_input_bytes}
 use Rattle.ccp_base.specs.Outside.{Takes, IsAtEnd}
 use Rattle.feed_core.specs.FeedEnds.{Stream}
-use Rattle.driven_flow.specs.declared.front.Front.{Front}
 use Rattle.driven_flow.specs.declared.front.FrontFault.{FrontFault}
 use Rattle.driven_flow.specs.declared.front.FrontFault.TheVariants as fault
 use Rattle.driven_flow.specs.Front.{divided, front_in, IsOverlong, IsDivided, IsFrontFault}
@@ -22,7 +21,7 @@ use Rattle.ccp_run.specs.declared.refusal.Refusal.TheVariants as refusal
 use Rattle.ccp_run.specs.declared.stop.Stop.{Stop}
 use Rattle.ccp_run.specs.declared.stop.Stop.TheVariants as stop
 use Rattle.ccp_run.specs.DriveEnds.{IsDrivenScene, IsOpened, OpensDrive, StopsOpening, front_stop}
-use Rattle.ccp_run.specs.DriveInputs.{Beginning, undivided, long, divided_at, with_scene, beginning_at, beginning_of, written_in, drive_written, refusal_in, drive_refusal, IsOpenAt, IsOpenDrive}
+use Rattle.ccp_run.specs.DriveInputs.{undivided, long, with_scene, beginning_at, beginning_of, written_in, drive_written, refusal_in, drive_refusal, IsOpenAt}
 use Rattle.ccp_run.specs.Scenes.{StopsScene}
 
 abbrev pub Parted : Type 0

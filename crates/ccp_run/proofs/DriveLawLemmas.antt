@@ -1,8 +1,8 @@
 -- What is written for a front of an input stays, and what follows a whole input is refused.
 use Rattle.std.proofs.Common.{◌≡◌, ◌⊎◌, inl, inr, ◌∙◌, ℕ, zero, suc, ◌+◌, ◌-◌, ◌<◌, ◌≤◌, leb, nat_lt, Bool, true, false, if◌then◌else◌, is_some, Option, Some, None, Result, Ok, Err, List, [], ◌∷◌, ◌++◌, length, take, drop, arith, ap, sym, subst, refl, append_assoc, append-nil, length-append}
-use Rattle.std.proofs.Math.Seq.{take-append-add, drop-append_seam}
-use Rattle.std.proofs.lemmas.List.{take-append-le, drop-append-le}
-use Rattle.std.proofs.lemmas.Option.{same_Some, none-some}
+use Rattle.std.proofs.Math.Seq.{drop-append_seam}
+use Rattle.std.proofs.lemmas.List.{drop-append-le}
+use Rattle.std.proofs.lemmas.Option.{none-some}
 use Rattle.std.proofs.lemmas.Bool.Decides.{leb_tells}
 use Rattle.ccp_base.specs.Limits.{most_input_bytes, most_audit_bytes}
 use Rattle.reply_frames.specs.declared.outline.Version.{Version}
@@ -12,11 +12,9 @@ use Rattle.ccp_messages.specs.declared.message.Message.{Message}
 use Rattle.ccp_messages.specs.declared.message.Message.TheVariants as message
 use Rattle.ccp_messages.specs.declared.fault.DecodeFault.{DecodeFault}
 use Rattle.ccp_messages.specs.declared.fault.DecodeFault.TheVariants as decode
-use Rattle.ccp_messages.specs.Decoding.{Found, Begins, decoded_of}
+use Rattle.ccp_messages.specs.Decoding.{Found, decoded_of}
 use Rattle.ccp_messages.specs.Messages.{frame_bytes}
 use Rattle.ccp_messages.proofs.DecodeLaws.{decoded-begins, begins-decoded}
-use Rattle.feed_core.specs.declared.ending.FeedEnd.{FeedEnd}
-use Rattle.feed_core.specs.declared.ending.FeedEnd.TheVariants as ends
 use Rattle.feed_core.specs.Answering.{end_from}
 use Rattle.feed_core.specs.Feed.{Answer}
 use Rattle.feed_core.specs.FeedBytes.{AnswerRule, Tail, left, bad, Fed, answer_bytes, answer_to, with_answers, fed_no_more, fed, fed_on, frames_from}
@@ -47,15 +45,16 @@ bad-left field place at is = cc
 decoded-on : (bytes more : List ℕ) → AllBytes bytes → (found : Found) → decoded_of bytes ≡ Ok found → (decoded_of (bytes ++ more) ≡ Ok found) × (drop found.2 (bytes ++ more) ≡ drop found.2 bytes ++ more)
 decoded-on bytes more fits found is =
     let b = decoded-begins bytes found fits is in
-    let frame : List ℕ = frame_bytes found.1 found.0 in
-    (begins-decoded (bytes ++ more) found.0 found.1 found.2 (record {
-      rest = b.rest ++ more;
-      parts = ap (λ xs. xs ++ more) b.parts ∙ append_assoc frame b.rest more;
-      used_is = b.used_is;
-      meets = b.meets;
-      typed = b.typed;
-    }),
-    drop-append-le found.2 bytes more (omega (arith, b.used_is, ap length b.parts, length-append frame b.rest)))
+    let frame : List ℕ = frame_bytes found.1 found.0 in (
+      begins-decoded (bytes ++ more) found.0 found.1 found.2 (record {
+        rest = b.rest ++ more;
+        parts = ap (λ xs. xs ++ more) b.parts ∙ append_assoc frame b.rest more;
+        used_is = b.used_is;
+        meets = b.meets;
+        typed = b.typed;
+      }),
+      drop-append-le found.2 bytes more (omega (arith, b.used_is, ap length b.parts, length-append frame b.rest)),
+    )
 
 module _ {S : Type 0} (answer : AnswerRule S) where
   -- the answers to more bytes go on
@@ -70,12 +69,13 @@ module _ {S : Type 0} (answer : AnswerRule S) where
           let on = decoded-on bytes more fits (message, version, used) is in
           let first : List ℕ = answer_to answer state message version in
           let next : S = (answer state message version).1 in
-          let rest = again (place + used) next (drop used bytes) (AllBytes-drop used bytes fits) in
-          (rest.0,
-          ap (λ found. (fed_on answer (fed answer frames) place state (bytes ++ more) found).answers) on.0
-          ∙ ap (λ bytes. first ++ (fed answer frames (place + used) next bytes).answers) on.1
-          ∙ ap (λ w. first ++ w) rest.1
-          ∙ sym (append_assoc first (fed answer frames (place + used) next (drop used bytes)).answers rest.0))
+          let rest = again (place + used) next (drop used bytes) (AllBytes-drop used bytes fits) in (
+            rest.0,
+            ap (λ found. (fed_on answer (fed answer frames) place state (bytes ++ more) found).answers) on.0
+                ∙ ap (λ bytes. first ++ (fed answer frames (place + used) next bytes).answers) on.1
+                ∙ ap (λ w. first ++ w) rest.1
+                ∙ sym (append_assoc first (fed answer frames (place + used) next (drop used bytes)).answers rest.0),
+          )
       go again (Err (decode.Bad field offset)) is = (_, refl)
       go again (Err (decode.More needed)) is = (_, refl)
       go again (Err decode.NoMemory) is = (_, refl)
@@ -184,10 +184,13 @@ module _ (s : SessionState) (over : waiting s ≡ None) where
           let one = passes message version in
           let rest = again (place + used) (drop used bytes) in
           let same : with_answers (answer_to hear s message version) (fed hear frames (place + used) (hear s message version).1 (drop used bytes)) ≡ with_answers (refusals one.0) (fed hear frames (place + used) s (drop used bytes)) =
-          λ i. with_answers (one.1.0 i) (fed hear frames (place + used) (one.1.1 i) (drop used bytes)) in
-          (one.0 ++ rest.0,
-          (ap (λ (f : Fed SessionState). f.answers) same ∙ ap (λ w. refusals one.0 ++ w) rest.1.0 ∙ refusals-both one.0 rest.0,
-          ap (λ (f : Fed SessionState). f.state) same ∙ rest.1.1))
+          λ i. with_answers (one.1.0 i) (fed hear frames (place + used) (one.1.1 i) (drop used bytes)) in (
+            one.0 ++ rest.0,
+            (
+              ap (λ (f : Fed SessionState). f.answers) same ∙ ap (λ w. refusals one.0 ++ w) rest.1.0 ∙ refusals-both one.0 rest.0,
+              ap (λ (f : Fed SessionState). f.state) same ∙ rest.1.1,
+            ),
+          )
       go again (Err (decode.Bad field offset)) = ([], (refl, refl))
       go again (Err (decode.More needed)) = ([], (refl, refl))
       go again (Err decode.NoMemory) = ([], (refl, refl))

@@ -1,40 +1,34 @@
 -- A run of `drive`, from how its scenario was read and how its frames then ended.
-use Rattle.std.proofs.Common.{◌≡◌, ◌≢◌, ◌⊎◌, inl, inr, ◌∙◌, ℕ, suc, ◌+◌, ◌-◌, ◌<◌, ◌≤◌, Some, None, Ok, List, [], ◌∷◌, ◌++◌, length, map, slice_index_or, arith, ap, sym, subst, refl, append_assoc, append-nil, length-append}
+use Rattle.std.proofs.Common.{◌≡◌, ◌⊎◌, inl, inr, ◌∙◌, ℕ, suc, ◌+◌, ◌-◌, ◌≤◌, Some, Ok, List, [], ◌∷◌, ◌++◌, length, map, slice_index_or, arith, ap, sym, subst, refl, append_assoc, append-nil, length-append}
 use Rattle.std.specs.List.{All}
-use Rattle.std.proofs.lemmas.List.Elements.{All-map}
-use Rattle.ccp_base.specs.Limits.{most_audit_bytes, most_frame_bytes, most_input_bytes}
-use Rattle.ccp_base.specs.Outside.{Known, Rose, Takes, TakesWithin, IsAtEnd, Appends, AppendsPrefix, Takes-append}
+use Rattle.ccp_base.specs.Limits.{most_audit_bytes}
+use Rattle.ccp_base.specs.Outside.{Known, Takes, IsAtEnd, Appends, AppendsPrefix, Takes-append}
 use Rattle.feed_core.specs.declared.ending.FeedEnd.{FeedEnd}
 use Rattle.feed_core.specs.declared.ending.FeedEnd.TheVariants as ends
 use Rattle.feed_core.specs.Answering.{Answering, after}
 use Rattle.feed_core.specs.FeedEnds.{Stream, stream, AreHandedOn, AnswersInput, AllowsAnswered, MayGoOn}
-use Rattle.flow_core.specs.declared.case.Case.{Case}
 use Rattle.reg_compiler.specs.declared.built.Built.{Built}
 use Rattle.reg_compiler.specs.Sources.{sources_of}
 use Rattle.scene_core.specs.CasePlans.{plan_of}
-use Rattle.scene_core.specs.CompiledPrograms.{IsCompiled, AreCompiled}
-use Rattle.scene_members.specs.declared.mode.SceneMode.TheVariants.{Driven}
-use Rattle.scenario_json.specs.Scene.{Scene, scene_with, scene_of}
-use Rattle.driven_flow.specs.DrivenCases.{driven_case}
-use Rattle.driven_flow.specs.Driven.{Codes, DrivenState, ReadsAlike, codes_of}
+use Rattle.scene_core.specs.CompiledPrograms.{AreCompiled}
+use Rattle.scenario_json.specs.Scene.{Scene, scene_with}
+use Rattle.driven_flow.specs.Driven.{ReadsAlike, codes_of}
 use Rattle.driven_flow.specs.Front.{AllowsFront, divided}
 use Rattle.driven_flow.proofs.FrontLineLemmas.{divided-goes-on}
 use Rattle.driven_flow.specs.Session.{SessionState, opening}
 use Rattle.driven_flow.proofs.DrivenLiftLemmas.{reads-alike}
-use Rattle.ccp_run.specs.declared.drive_end.DriveEnd.{DriveEnd}
-use Rattle.ccp_run.specs.declared.drive_end.DriveEnd.TheVariants as end
 use Rattle.ccp_run.specs.declared.modes.drive.Opened.{Opened}
 use Rattle.ccp_run.specs.declared.refusal.Limit.TheVariants.{Audit}
 use Rattle.ccp_run.specs.declared.refusal.Refusal.{Refusal}
-use Rattle.ccp_run.specs.declared.refusal.Refusal.TheVariants.{TooLong, Frame, FrameCut}
+use Rattle.ccp_run.specs.declared.refusal.Refusal.TheVariants.{TooLong, Frame}
 use Rattle.ccp_run.specs.declared.stop.Stop.{Stop}
 use Rattle.ccp_run.specs.declared.stop.Stop.TheVariants as stop
 use Rattle.ccp_run.specs.Drive.{IsDriven}
 use Rattle.ccp_run.specs.DriveEnds.{AnswersDrive, AllowsDrive, IsDriveEnd, OpensDrive, StopsOpening, IsSessionEnd, end_at, end_in}
-use Rattle.ccp_run.specs.DriveInputs.{Beginning, divided_at, beginning_of, codes_from, begun, driven_by, driving, written_in, drive_written, end_refusal, refusal_in, drive_refusal, IsOpenAt, IsOpenDrive, flows_in, driven_flows}
+use Rattle.ccp_run.specs.DriveInputs.{divided_at, beginning_of, codes_from, begun, driven_by, driving, written_in, drive_written, end_refusal, refusal_in, drive_refusal, IsOpenAt, IsOpenDrive, flows_in, driven_flows}
 use Rattle.ccp_run.proofs.DriveFrames.{appends-nothing, rose-late}
 use Rattle.ccp_run.proofs.DriveFronts.{divided-there, undivided-silent, head-of}
-use Rattle.ccp_run.proofs.DriveSessions.{IsSessionOf, HasCodes, opening-holds, frames-hold}
+use Rattle.ccp_run.proofs.DriveSessions.{IsSessionOf, opening-holds, frames-hold}
 use Rattle.ccp_run.proofs.PlannedLemmas.{planned_all}
 
 -- ---- the codes of programs

@@ -1,5 +1,5 @@
 -- What holds of a session at any place of its frames: its programs, and how many flows it has.
-use Rattle.std.proofs.Common.{◌≡◌, ℕ, zero, suc, ◌+◌, ◌-◌, ◌≤◌, Option, Some, None, option_map, Result, Ok, Err, List, [], ◌∷◌, ◌++◌, length, take, drop, arith, ap, sym, subst, refl, ◌∙◌, length-append}
+use Rattle.std.proofs.Common.{◌≡◌, ℕ, zero, suc, ◌+◌, ◌-◌, Option, Some, None, option_map, Result, Ok, Err, List, [], ◌∷◌, length, take, drop, arith, ap, refl, ◌∙◌, length-append}
 use Rattle.std.specs.List.{All}
 use Rattle.std.proofs.lemmas.List.Elements.{All-append, All-cons, All-nil}
 use Rattle.ccp_base.specs.Limits.{most_audit_bytes}
@@ -10,14 +10,14 @@ use Rattle.ccp_messages.specs.declared.fault.DecodeFault.TheVariants as decode
 use Rattle.ccp_messages.specs.Decoding.{Found, decoded_of}
 use Rattle.reply_frames.specs.declared.outline.Version.{Version}
 use Rattle.feed_core.specs.Feed.{Answer}
-use Rattle.feed_core.specs.FeedBytes.{AnswerRule, Fed, fed, fed_on, frames_from}
+use Rattle.feed_core.specs.FeedBytes.{AnswerRule, fed, fed_on, frames_from}
 use Rattle.campaign_core.specs.CampaignWord.{next_of}
 use Rattle.flow_core.specs.declared.letter.Letter.{Letter}
 use Rattle.flow_core.specs.declared.letter.Letter.TheVariants.{A, T, C}
 use Rattle.driven_flow.specs.declared.case.DrivenCase.{DrivenCase}
 use Rattle.driven_flow.specs.declared.refusal.Refusal.{Refusal}
 use Rattle.driven_flow.specs.Driven.{Codes, DrivenState, Given, flow_by, world_by, left_of}
-use Rattle.driven_flow.specs.Session.{SessionState, opening, hear, heard, heard_as, accepted, turned, turned_by, gone_on, stopped, stopped_by, reported, refusal, with_ended, after_one, then_on, run_for, run_on}
+use Rattle.driven_flow.specs.Session.{SessionState, opening, hear, heard, heard_as, turned, turned_by, gone_on, stopped, stopped_by, reported, refusal, with_ended, after_one, then_on, run_for, run_on}
 use Rattle.driven_flow.specs.SessionHolds.{HasPrograms}
 
 -- ---- what frames keep

@@ -1,16 +1,13 @@
 -- The text of driven flows, from how their scenario was read and how their frames then ended.
-use Rattle.std.proofs.Common.{◌≡◌, ◌≢◌, ◌≤◌, ◌⊎◌, inl, inr, ◌∙◌, ℕ, ◌+◌, ◌-◌, Bool, true, Some, None, Result, Ok, Err, List, [], ◌++◌, length, map, arith, ap, sym, refl, subst, append-nil, length-append}
-use Rattle.std.specs.List.{All}
+use Rattle.std.proofs.Common.{◌≡◌, ◌≤◌, ◌⊎◌, inl, inr, ◌∙◌, ℕ, ◌-◌, Bool, true, Some, Result, Ok, Err, List, [], ◌++◌, length, arith, ap, sym, subst, length-append}
 use Rattle.ccp_base.specs.Limits.{most_audit_bytes, most_cases}
-use Rattle.ccp_base.specs.Outside.{Known, Takes, TakesWithin, IsAtEnd, Takes-append}
+use Rattle.ccp_base.specs.Outside.{Known, TakesWithin, IsAtEnd, Takes-append}
 use Rattle.ccp_words.specs.declared.mode.DriveText.{DriveText}
-use Rattle.reg_compiler.specs.declared.built.Built.{Built}
 use Rattle.feed_core.specs.declared.ending.FeedEnd.{FeedEnd}
 use Rattle.feed_core.specs.declared.ending.FeedEnd.TheVariants as ends
 use Rattle.feed_core.specs.FeedEnds.{Stream, stream}
-use Rattle.driven_flow.specs.Driven.{DrivenState, codes_of}
+use Rattle.driven_flow.specs.Driven.{codes_of}
 use Rattle.driven_flow.specs.Session.{SessionState, opening}
-use Rattle.ccp_run.specs.declared.drive_end.DriveEnd.{DriveEnd}
 use Rattle.ccp_run.specs.declared.drive_end.DriveEnd.TheVariants as drive
 use Rattle.ccp_run.specs.declared.modes.drive.Opened.{Opened}
 use Rattle.ccp_run.specs.declared.outcome.ModeOutput.{ModeOutput}
@@ -22,7 +19,7 @@ use Rattle.ccp_run.specs.declared.stop.Stop.TheVariants as stop
 use Rattle.ccp_run.specs.Attempts.{RefusesAny}
 use Rattle.ccp_run.specs.Drive.{IsDriven, drive_text}
 use Rattle.ccp_run.specs.DriveInputs.{drive_refusal, driven_by, driven_flows}
-use Rattle.ccp_run.specs.DriveEnds.{RefusesOpening, RefusesDrive, IsDriveEnd, IsSessionEnd, OpensDrive, StopsOpening, end_at, end_in}
+use Rattle.ccp_run.specs.DriveEnds.{RefusesDrive, IsDriveEnd, IsSessionEnd, OpensDrive, StopsOpening, end_at, end_in}
 use Rattle.ccp_run.specs.DriveTexts.{AreOf, IsHeardOut, IsStreamAttempt, IsTextMade, MakesText, RefusesStream}
 use Rattle.ccp_run.specs.Modes.{Task, Driven}
 use Rattle.ccp_run.specs.Streams.{StreamChange}

@@ -1,6 +1,6 @@
 -- What a driven case says is within its ranges, and the cases that are planned by what cases say are their driven cases.
-use Rattle.std.proofs.Common.{◌≡◌, ◌∙◌, ◌⊎◌, inl, inr, ◌≤◌, ◌<◌, ℕ, zero, suc, ◌+◌, Bool, true, false, leb, Option, Some, None, option_map, List, [], ◌∷◌, map, length, slice_index, subst, refl, sym, ap, arith}
-use Rattle.std.specs.Coded.{le_prop, ×_prop, Π_prop, →_prop}
+use Rattle.std.proofs.Common.{◌≡◌, ◌∙◌, ◌⊎◌, inl, inr, ◌≤◌, ◌<◌, ℕ, suc, ◌+◌, true, false, leb, Option, Some, None, option_map, List, [], ◌∷◌, map, slice_index, subst, refl, ap, arith}
+use Rattle.std.specs.Coded.{le_prop, ×_prop}
 use Rattle.std.specs.List.Sorted.{IsStrictlyIncreasing}
 use Rattle.std.specs.Option.{ForSome}
 use Rattle.std.proofs.lemmas.Bool.Decides.{leb_tells}
@@ -61,10 +61,11 @@ drivable-gives plan is =
     let mark = marking-gives plan.loss_plan.mark is.mark in
     let acks = at_most-gives plan.link_numbers.acks most_acks is.acks in
     let slots = within-gives 1 most_slots plan.agent_numbers.slots is.slots in
-    let lag = at_most-gives plan.agent_numbers.lag most_lag is.lag in
-    (record { mss = mss.0; queue = queue.0; delay = delay.0; timeout = timeout.0; rise = rise.0; mark = mark.0; acks = acks.0; slots = slots.0; lag = lag.0 },
-    λ i. where_so (mss.1 i) (λ m. where_so (queue.1 i) (λ q. where_so (delay.1 i) (λ d. where_so (timeout.1 i) (λ t. where_so (rise.1 i) (λ r. where_so (mark.1 i) (λ k.
-    where_so (acks.1 i) (λ a. where_so (slots.1 i) (λ s. where_so (lag.1 i) (λ l. Some (record { mss = m; queue = q; delay = d; timeout = t; rise = r; mark = k; acks = a; slots = s; lag = l })))))))))))
+    let lag = at_most-gives plan.agent_numbers.lag most_lag is.lag in (
+      record { mss = mss.0; queue = queue.0; delay = delay.0; timeout = timeout.0; rise = rise.0; mark = mark.0; acks = acks.0; slots = slots.0; lag = lag.0 },
+      λ i. where_so (mss.1 i) (λ m. where_so (queue.1 i) (λ q. where_so (delay.1 i) (λ d. where_so (timeout.1 i) (λ t. where_so (rise.1 i) (λ r. where_so (mark.1 i) (λ k.
+          where_so (acks.1 i) (λ a. where_so (slots.1 i) (λ s. where_so (lag.1 i) (λ l. Some (record { mss = m; queue = q; delay = d; timeout = t; rise = r; mark = k; acks = a; slots = s; lag = l })))))))))),
+    )
 
 -- ---- the cases
 

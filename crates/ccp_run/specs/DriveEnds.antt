@@ -1,5 +1,5 @@
 -- How the reading of an input of `drive` ends, and what was taken and written then.
-use Rattle.std.specs.Prelude.{◌≡◌, ◌⊎◌, ℕ, ◌+◌, ◌≤◌, ◌<◌, Option, Some, None, Result, Ok, Err, List, [], ◌++◌, length, map}
+use Rattle.std.specs.Prelude.{◌≡◌, ◌⊎◌, ℕ, ◌+◌, ◌≤◌, ◌<◌, Some, Result, Ok, Err, List, [], ◌++◌, length, map}
 use Rattle.ccp_base.specs.Limits.{most_audit_bytes, most_flows, most_frame_bytes, most_input_bytes}
 use Rattle.ccp_base.specs.Outside.{Known, Rose, Takes, IsAtEnd, Appends, AppendsPrefix}
 use Rattle.ccp_messages.specs.declared.message.Message.{Message}

@@ -1,5 +1,5 @@
 -- What the texts of driven flows are made of: flows that have the scenario's programs, at the end of their frames.
-use Rattle.std.specs.Prelude.{◌≡◌, ◌⊎◌, ℕ, ◌+◌, ◌-◌, ◌≤◌, Bool, true, Result, Ok, Err, List, [], length, map}
+use Rattle.std.specs.Prelude.{◌≡◌, ◌⊎◌, ℕ, ◌+◌, ◌-◌, ◌≤◌, Bool, Result, Ok, Err, List, [], length, map}
 use Rattle.std.specs.List.{All}
 use Rattle.ccp_base.specs.Limits.{most_audit_bytes}
 use Rattle.ccp_base.specs.Outside.{Known, Rose, Takes, TakesWithin}
@@ -62,10 +62,6 @@ IsStreamAttempt task source (Ok output) = MakesOutput task source output
 IsStreamAttempt task source (Err (stop.Refused refusal)) = RefusesStream task source refusal
 IsStreamAttempt task source (Err stop.ReadFailed) = FailsToReadStream task source
 IsStreamAttempt task source (Err stop.NoMemory) = TakesWithin (limit_of task) source.old source.new
-
--- the same as one fact
-pub record Attempts (task : Task) (source : StreamChange) (made : Result ModeOutput Stop) : Type 0 where
-  pub attempt : IsStreamAttempt task source made
 
 -- ---- its frames
 

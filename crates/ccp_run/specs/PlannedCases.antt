@@ -1,5 +1,5 @@
 -- The cases of driven flows, as a function of what the cases of a scenario say.
-use Rattle.std.proofs.Common.{◌≡◌, ◌⊎◌, inl, inr, ◌≤◌, ◌<◌, ℕ, zero, suc, ◌+◌, Bool, true, leb, Option, Some, None, option_map, List, [], ◌∷◌, length, slice_index, subst, arith}
+use Rattle.std.proofs.Common.{◌≡◌, ◌⊎◌, inl, inr, ◌≤◌, ◌<◌, ℕ, zero, suc, ◌+◌, true, leb, Option, Some, None, option_map, List, [], ◌∷◌, slice_index, subst, arith}
 use Rattle.std.specs.List.Sorted.{IsStrictlyIncreasing}
 use Rattle.std.specs.Option.{ForSome}
 use Rattle.std.proofs.lemmas.Bool.Decides.{leb_tells}

@@ -104,11 +104,7 @@ pub struct Opened {
 
 /// Reads the scenario that an input begins with, up to the line `---`. The bytes of the last piece after that line stay
 /// in the rest.
-pub fn open_drive<D: Duplex>(
-    alloc: Global,
-    duplex: &mut D,
-    rest: &mut Rest,
-) -> Result<Opened, Stop>
+pub fn open_drive<D: Duplex>(alloc: Global, duplex: &mut D, rest: &mut Rest) -> Result<Opened, Stop>
     requires empty { rest.old ≡ [] }
     requires allowed { AllowsDrive D.remaining D.written D.is_finished D.Follows D.MayRead duplex.old }
     ensures follows { D.Follows duplex.old duplex.new }
@@ -139,12 +135,7 @@ fn driven_scene(alloc: Global, front: Front) -> Result<Opened, Stop>
 }
 
 /// Answers the frames of a scenario's flows.
-fn drive_flows<D: Duplex>(
-    alloc: Global,
-    opened: Opened,
-    rest: &mut Rest,
-    duplex: &mut D,
-) -> FeedEnd
+fn drive_flows<D: Duplex>(alloc: Global, opened: Opened, rest: &mut Rest, duplex: &mut D) -> FeedEnd
     requires within { opened.place + length rest.old ≤ most_audit_bytes }
     requires allowed { AllowsAnswered
         (after rest.old (driven_by (opening (codes_of opened.programs) opened.cases) opened.place))

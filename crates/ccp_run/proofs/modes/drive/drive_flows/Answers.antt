@@ -1,4 +1,4 @@
-use Rattle.std.proofs.Common.{List, ℕ, ◌≡◌, ◌∙◌, ap, sym, subst}
+use Rattle.std.proofs.Common.{◌≡◌, ◌∙◌, ap, sym, subst}
 use Rattle.feed_core.specs.Answering.{after}
 use Rattle.feed_core.specs.FeedEnds.{Stream, stream, AllowsAnswered}
 use Rattle.driven_flow.specs.Driven.{Codes, codes_of}
@@ -19,6 +19,7 @@ returns-clause-end g c =
     let coded = c.new-coded.ensures ∙ ap codes_of c.as_slice.ensures in
     let begun : c.begin-session.result ≡ opening (codes_of c.args.opened.programs) c.args.opened.cases = c.begin-session.ensures ∙ ap (λ (codes : Codes). opening codes c.args.opened.cases) coded in
     let source : Stream = stream (g.D.Duplex.remaining c.args.duplex.now) (g.D.Duplex.remaining c.drive_session.new.duplex) (g.D.Duplex.read_faults c.args.duplex.now) (g.D.Duplex.read_faults c.drive_session.new.duplex) in
-    let sink : Stream = stream (g.D.Duplex.written c.args.duplex.now) (g.D.Duplex.written c.drive_session.new.duplex) (g.D.Duplex.write_faults c.args.duplex.now) (g.D.Duplex.write_faults c.drive_session.new.duplex) in
-    (c.drive_session.new.session,
-    subst (λ (s : SessionState). IsSessionEnd c.args.rest.now c.args.opened.place s c.drive_session.new.session source sink (g.D.Duplex.is_finished c.drive_session.new.duplex) c.drive_session.result) begun c.drive_session.ensures.end)
+    let sink : Stream = stream (g.D.Duplex.written c.args.duplex.now) (g.D.Duplex.written c.drive_session.new.duplex) (g.D.Duplex.write_faults c.args.duplex.now) (g.D.Duplex.write_faults c.drive_session.new.duplex) in (
+      c.drive_session.new.session,
+      subst (λ (s : SessionState). IsSessionEnd c.args.rest.now c.args.opened.place s c.drive_session.new.session source sink (g.D.Duplex.is_finished c.drive_session.new.duplex) c.drive_session.result) begun c.drive_session.ensures.end,
+    )

@@ -1,9 +1,8 @@
-use Rattle.std.proofs.Common.{List, ℕ, ap, sym, subst}
+use Rattle.std.proofs.Common.{List, ℕ, subst}
 use Rattle.ccp_base.specs.Limits.{most_audit_bytes}
 use Rattle.ccp_base.specs.Outside.{Known, Appends, AppendsPrefix}
 use Rattle.ccp_messages.specs.declared.message.Message.{Message}
-use Rattle.feed_core.specs.declared.answering.Unanswered.{Unanswered}
-use Rattle.feed_core.specs.Answering.{Answering, answering}
+use Rattle.feed_core.specs.Answering.{answering}
 use Rattle.feed_core.specs.Feed.{Answer}
 use Rattle.feed_core.specs.FeedBytes.{answer_bytes, frames_from}
 use Rattle.feed_core.specs.FeedEnds.{stream, AreHandedOn}

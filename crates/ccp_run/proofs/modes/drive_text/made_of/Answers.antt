@@ -1,10 +1,9 @@
-use Rattle.std.proofs.Common.{None, Ok, Err, ℕ, List, length, ◌≡◌, ◌≤◌, ◌∙◌, ap, sym, subst, arith}
+use Rattle.std.proofs.Common.{None, Ok, Err, List, length, ◌≡◌, ◌≤◌, ◌∙◌, ap, sym, subst}
 use Rattle.std.proofs.lemmas.Result.{err_from_is_err_and}
 use Rattle.ccp_base.specs.Limits.{most_cases}
 use Rattle.feed_core.specs.FeedEnds.{Stream, stream}
 use Rattle.driven_flow.specs.Driven.{Codes, DrivenState, codes_of}
 use Rattle.driven_flow.specs.Session.{SessionState, opening}
-use Rattle.ccp_run.specs.declared.stop.Stop.{Stop}
 use Rattle.ccp_run.specs.DriveTexts.{AreOf, IsHeardOut, IsTextMade}
 use Rattle.ccp_run.proofs.DriveTextRuns.{unmade, flows-few, flows-own}
 use Rattle.ccp_run.proofs.modes.drive_text.made_of.Goals as goal
