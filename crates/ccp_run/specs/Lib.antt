@@ -1,6 +1,7 @@
 -- The definitions of ccp_run, a file each.
 
--- those that contracts of public calls cite: streams and statuses, the rules of each mode, and a whole run
+-- those that contracts of public calls cite: streams and statuses, the rules of each mode, and a whole run, and how the reading of
+-- an input of `drive` ends
 pub mod Streams
 pub mod Statuses
 pub mod ErrorLine
@@ -24,6 +25,7 @@ pub mod Rollout
 pub mod Modes
 pub mod Run
 pub mod Complete
+pub mod DriveEnds
 pub mod Settled
 pub mod TextLaws
 pub mod SharedLaws
@@ -34,5 +36,4 @@ pub mod Tool
 pub mod Attempts
 pub mod Endings
 pub mod FeedEndings
-pub mod DriveEnds
 pub mod DriveTexts
