@@ -1,20 +1,9 @@
--- What is written for a front of an input stays, and what follows a whole input is refused.
-use Rattle.std.proofs.Common.{◌≡◌, ◌⊎◌, inl, inr, ◌∙◌, ℕ, zero, suc, ◌+◌, ◌-◌, ◌<◌, ◌≤◌, leb, nat_lt, Bool, true, false, if◌then◌else◌, is_some, Option, Some, None, Result, Ok, Err, List, [], ◌∷◌, ◌++◌, length, take, drop, arith, ap, sym, subst, refl, append_assoc, append-nil, length-append}
-use Rattle.std.proofs.Math.Seq.{drop-append_seam}
-use Rattle.std.proofs.lemmas.List.{drop-append-le}
-use Rattle.std.proofs.lemmas.Option.{none-some}
-use Rattle.std.proofs.lemmas.Bool.Decides.{leb_tells}
+-- What more bytes behind an input of `drive` change.
+use Rattle.std.proofs.Common.{◌≡◌, ℕ, ◌+◌, ◌-◌, ◌≤◌, Bool, true, false, nat_lt, Option, Some, None, Result, Ok, Err, List, [], ◌∷◌, ◌++◌, length, ap, sym, refl, ◌∙◌, arith, append_assoc, length-append}
+use Rattle.std.specs.Prelude.{if◌then◌else◌}
+use Rattle.std.proofs.lemmas.Bool.Decides.{nat_tests}
 use Rattle.ccp_base.specs.Limits.{most_input_bytes, most_audit_bytes}
-use Rattle.reply_frames.specs.declared.outline.Version.{Version}
-use Rattle.reply_frames.proofs.Codec.{AllBytes, AllBytes-drop, AllBytes-take}
-use Rattle.reply_frames.proofs.NeededLaw.{all-bytes}
-use Rattle.ccp_messages.specs.declared.message.Message.{Message}
-use Rattle.ccp_messages.specs.declared.message.Message.TheVariants as message
-use Rattle.ccp_messages.specs.declared.fault.DecodeFault.{DecodeFault}
-use Rattle.ccp_messages.specs.declared.fault.DecodeFault.TheVariants as decode
-use Rattle.ccp_messages.specs.Decoding.{Found, decoded_of}
-use Rattle.ccp_messages.specs.Messages.{frame_bytes}
-use Rattle.ccp_messages.proofs.DecodeLaws.{decoded-begins, begins-decoded}
+use Rattle.feed_core.specs.FeedBytes.{Tail, left, bad, Fed, answer_bytes, frames_from}
 use Rattle.feed_core.specs.Answering.{end_from}
 use Rattle.feed_core.specs.FrameLaws.{LeavesNothing}
 use Rattle.feed_core.proofs.FrameLawLemmas.{answers-fronts, goes-on-after-frames}
@@ -43,44 +32,16 @@ scene-more : (place : ℕ) (frames more : List ℕ) (read : Result Scene SceneFa
 scene-more place frames more (Ok scene) = refl
 scene-more place frames more (Err fault) = refl
 
--- a frame that begins the bytes begins them whatever follows
-decoded-on : (bytes more : List ℕ) → AllBytes bytes → (found : Found) → decoded_of bytes ≡ Ok found → (decoded_of (bytes ++ more) ≡ Ok found) × (drop found.2 (bytes ++ more) ≡ drop found.2 bytes ++ more)
-decoded-on bytes more fits found is =
-    let b = decoded-begins bytes found fits is in
-    let frame : List ℕ = frame_bytes found.1 found.0 in (
-      begins-decoded (bytes ++ more) found.0 found.1 found.2 (record {
-        rest = b.rest ++ more;
-        parts = ap (λ xs. xs ++ more) b.parts ∙ append_assoc frame b.rest more;
-        used_is = b.used_is;
-        meets = b.meets;
-        typed = b.typed;
-      }),
-      drop-append-le found.2 bytes more (omega (arith, b.used_is, ap length b.parts, length-append frame b.rest)),
-    )
+text-more : (is_long : Bool) (place place' : ℕ) (frames more : List ℕ) (read : Result Scene SceneFault) → place' ≡ place
+    → (if is_long then long else with_scene place' (frames ++ more) read) ≡ with_more more (if is_long then long else with_scene place frames read)
+text-more true place place' frames more read same = refl
+text-more false place place' frames more read same = ap (λ p. with_scene p (frames ++ more) read) same ∙ scene-more place frames more read
 
-module _ {S : Type 0} (answer : AnswerRule S) where
-  -- the answers to more bytes go on
-  fed-on : (frames place : ℕ) (state : S) (bytes more : List ℕ) → AllBytes bytes → (later : List ℕ) × ((fed answer frames place state (bytes ++ more)).answers ≡ (fed answer frames place state bytes).answers ++ later)
-  fed-on zero place state bytes more fits = ([], refl)
-  fed-on (suc frames) place state bytes more fits = go (λ place state bytes fits. fed-on frames place state bytes more fits) (decoded_of bytes) refl
-    where
-      go : ((place : ℕ) (state : S) (bytes : List ℕ) → AllBytes bytes → (later : List ℕ) × ((fed answer frames place state (bytes ++ more)).answers ≡ (fed answer frames place state bytes).answers ++ later))
-          → (found : Result Found DecodeFault) → decoded_of bytes ≡ found
-          → (later : List ℕ) × ((fed_on answer (fed answer frames) place state (bytes ++ more) (decoded_of (bytes ++ more))).answers ≡ (fed_on answer (fed answer frames) place state bytes found).answers ++ later)
-      go again (Ok (message, version, used)) is =
-          let on = decoded-on bytes more fits (message, version, used) is in
-          let first : List ℕ = answer_to answer state message version in
-          let next : S = (answer state message version).1 in
-          let rest = again (place + used) next (drop used bytes) (AllBytes-drop used bytes fits) in (
-            rest.0,
-            ap (λ found. (fed_on answer (fed answer frames) place state (bytes ++ more) found).answers) on.0
-                ∙ ap (λ bytes. first ++ (fed answer frames (place + used) next bytes).answers) on.1
-                ∙ ap (λ w. first ++ w) rest.1
-                ∙ sym (append_assoc first (fed answer frames (place + used) next (drop used bytes)).answers rest.0),
-          )
-      go again (Err (decode.Bad field offset)) is = (_, refl)
-      go again (Err (decode.More needed)) is = (_, refl)
-      go again (Err decode.NoMemory) is = (_, refl)
+begins-more : (bytes more text frames : List ℕ) → divided bytes ≡ Some (text, frames) → beginning_of (bytes ++ more) ≡ with_more more (beginning_at (length bytes) (Some (text, frames)))
+begins-more bytes more text frames is =
+    let same : length (bytes ++ more) - length (frames ++ more) ≡ length bytes - length frames = omega (arith, length-append bytes more, length-append frames more) in
+    ap (beginning_at (length (bytes ++ more))) (goes-further [] bytes more text frames is)
+    ∙ text-more (nat_lt most_input_bytes (length text)) (length bytes - length frames) (length (bytes ++ more) - length (frames ++ more)) frames more (scene_of Driven text) same
 
 -- ---- fronts
 
@@ -138,45 +99,14 @@ record AddsRefusals (size : ℕ) (more : List ℕ) (beginning : Beginning) : Typ
   pub same : flows_in (with_more more beginning) ≡ flows_in beginning
   pub written : written_in (with_more more beginning) ≡ written_in beginning ++ refusals_from most_audit_bytes size more
 
-  abbrev Quiet : Fed SessionState → Type 0
-  Quiet f = (flows : List (ℕ × Version)) × ((f.answers ≡ refusals flows) × (f.state ≡ s))
-
-  quiet : (frames place : ℕ) (bytes : List ℕ) → Quiet (fed hear frames place s bytes)
-  quiet zero place bytes = ([], (refl, refl))
-  quiet (suc frames) place bytes = go (quiet frames) (decoded_of bytes)
-    where
-      go : ((place : ℕ) (bytes : List ℕ) → Quiet (fed hear frames place s bytes)) → (found : Result Found DecodeFault) → Quiet (fed_on hear (fed hear frames) place s bytes found)
-      go again (Ok (message, version, used)) =
-          let one = passes message version in
-          let rest = again (place + used) (drop used bytes) in
-          let same : with_answers (answer_to hear s message version) (fed hear frames (place + used) (hear s message version).1 (drop used bytes)) ≡ with_answers (refusals one.0) (fed hear frames (place + used) s (drop used bytes)) =
-          λ i. with_answers (one.1.0 i) (fed hear frames (place + used) (one.1.1 i) (drop used bytes)) in (
-            one.0 ++ rest.0,
-            (
-              ap (λ (f : Fed SessionState). f.answers) same ∙ ap (λ w. refusals one.0 ++ w) rest.1.0 ∙ refusals-both one.0 rest.0,
-              ap (λ (f : Fed SessionState). f.state) same ∙ rest.1.1,
-            ),
-          )
-      go again (Err (decode.Bad field offset)) = ([], (refl, refl))
-      go again (Err (decode.More needed)) = ([], (refl, refl))
-      go again (Err decode.NoMemory) = ([], (refl, refl))
-
--- after whole frames, where no flow waits, the rest is refused
-pub record FramesRest (place : ℕ) (s : SessionState) (bytes more : List ℕ) : Type 0 where
-  pub flows : List (ℕ × Version)
-  pub answers : (frames_from hear most_audit_bytes place s (bytes ++ more)).answers ≡ (frames_from hear most_audit_bytes place s bytes).answers ++ refusals flows
-  pub state : (frames_from hear most_audit_bytes place s (bytes ++ more)).state ≡ (frames_from hear most_audit_bytes place s bytes).state
-
-pub frames-rest : (place : ℕ) (s : SessionState) (bytes more : List ℕ) → AllBytes bytes → (at : ℕ) → (frames_from hear most_audit_bytes place s bytes).tail ≡ left at []
-    → waiting (frames_from hear most_audit_bytes place s bytes).state ≡ None → FramesRest place s bytes more
-unfolding frames_from
-frames-rest place s bytes more fits at whole over =
-    let n : ℕ = most_audit_bytes - place in
-    let taken = take-more hear n bytes more in
-    let on = fed-ends hear n place s (take n bytes) taken.0 (AllBytes-take n bytes fits) at whole in
-    let f : Fed SessionState = fed hear n place s (take n bytes) in
-    let rest = quiet f.state over on.frames' on.place' taken.0 in
-    let all : fed hear n place s (take n (bytes ++ more)) ≡ with_answers f.answers (fed hear on.frames' on.place' f.state taken.0) = ap (fed hear n place s) taken.1 ∙ on.goes in
+scene-over : (size place : ℕ) (frames more : List ℕ) (scene : Scene) → place + length frames ≡ size → refusal_in size (divided_at scene place frames) ≡ None
+    → AddsRefusals size more (divided_at scene place frames)
+scene-over size place frames more scene ends is =
+    let first : List ℕ = answer_bytes (first_frame (begun scene)) in
+    let here : Fed SessionState = frames_from hear most_audit_bytes place (begun scene) frames in
+    let whole = whole-end here.tail (waits here.state) (nat_lt (most_audit_bytes - place) (length frames)) is in
+    let goes = goes-on-after-frames hear waits most_audit_bytes place (begun scene) frames more (not-over (most_audit_bytes - place) (length frames) whole.within) whole.nothing in
+    let alone = refuses-after-end here.state whole.over most_audit_bytes (place + length frames) more in
     record {
       same = ap (λ (s : SessionState). s.ended) (goes.state ∙ alone.same);
       written =
