@@ -1,5 +1,5 @@
 -- The frames of an input after a first frame that is written before any is read.
-use Rattle.std.proofs.Common.{◌≡◌, inl, inr, ◌∙◌, ℕ, ◌+◌, ◌-◌, ◌≤◌, Some, None, List, [], ◌++◌, length, take, rules, arith, ap, sym, subst, append_assoc, append-nil, length-append}
+use Rattle.std.proofs.Common.{◌≡◌, inl, inr, ◌∙◌, ℕ, ◌+◌, ◌≤◌, Some, None, List, [], ◌++◌, length, take, rules, arith, ap, sym, subst, append_assoc, append-nil, length-append}
 use Rattle.std.proofs.Math.Seq.{take-append-add}
 use Rattle.std.proofs.lemmas.List.{take-append-le}
 use Rattle.ccp_base.specs.Outside.{Known, Rose, Takes, Appends, AppendsPrefix, Appends-append}

@@ -108,7 +108,7 @@ module _ (bytes text rest : List ℕ) (is : divided bytes ≡ Some (text, rest))
       same : (front : List ℕ) → bytes ≡ front ++ 10 ∷ rest → (first left : List ℕ) → divided (front ++ 10 ∷ []) ≡ Some (first, left) → (first ≡ text) × (left ≡ [])
       same front parts first left at =
           let one : (front ++ 10 ∷ []) ++ rest ≡ bytes = append_assoc front (10 ∷ []) rest ∙ sym parts in
-          let both : (first, left ++ rest) ≡ (text, rest) = same_Some (first, left ++ rest) (text, rest) (sym (divided-goes-on (front ++ 10 ∷ []) rest first left at) ∙ ap divided one ∙ is) in
+          let both : ◌≡◌ {A = List ℕ × List ℕ} (first, left ++ rest) (text, rest) = same_Some (first, left ++ rest) (text, rest) (sym (divided-goes-on (front ++ 10 ∷ []) rest first left at) ∙ ap divided one ∙ is) in
           let size : length left + length rest ≡ length rest = sym (length-append left rest) ∙ ap (λ (p : List ℕ × List ℕ). length p.1) both in
           (ap (λ (p : List ℕ × List ℕ). p.0) both, nothing left (omega (arith, size)))
         where
@@ -119,7 +119,7 @@ module _ (bytes text rest : List ℕ) (is : divided bytes ≡ Some (text, rest))
       open_front : (front : List ℕ) → bytes ≡ front ++ 10 ∷ rest → (parted : Parted) → divided front ≡ parted → divided front ≡ None
       open_front front parts None at = at
       open_front front parts (Some (first, left)) at =
-          let both : (first, left ++ 10 ∷ rest) ≡ (text, rest) = same_Some (first, left ++ 10 ∷ rest) (text, rest) (sym (divided-goes-on front (10 ∷ rest) first left at) ∙ ap divided (sym parts) ∙ is) in
+          let both : ◌≡◌ {A = List ℕ × List ℕ} (first, left ++ 10 ∷ rest) (text, rest) = same_Some (first, left ++ 10 ∷ rest) (text, rest) (sym (divided-goes-on front (10 ∷ rest) first left at) ∙ ap divided (sym parts) ∙ is) in
           let size : length left + length (10 ∷ rest) ≡ length rest = sym (length-append left (10 ∷ rest)) ∙ ap (λ (p : List ℕ × List ℕ). length p.1) both in
           absurd (omega (arith, size))
 

@@ -1,5 +1,5 @@
 -- A run of `drive`, from how the reading of its input ended and what it then reported.
-use Rattle.std.proofs.Common.{◌≡◌, ◌≢◌, ◌≤◌, ◌⊎◌, inl, inr, ◌∙◌, ℕ, ◌+◌, true, Some, List, [], ◌++◌, length, arith, ap, sym, refl, subst, append-nil}
+use Rattle.std.proofs.Common.{◌≡◌, ◌≢◌, ◌≤◌, ◌⊎◌, inl, inr, ◌∙◌, ℕ, true, Some, List, [], ◌++◌, length, arith, ap, sym, refl, subst, append-nil}
 use Rattle.ccp_base.specs.Limits.{most_audit_bytes}
 use Rattle.ccp_base.specs.Outside.{Takes, IsAtEnd}
 use Rattle.feed_core.specs.FeedEnds.{Stream as Frames, stream as frames}

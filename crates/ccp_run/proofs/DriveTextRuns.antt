@@ -1,5 +1,5 @@
 -- The text of driven flows, from how their scenario was read and how their frames then ended.
-use Rattle.std.proofs.Common.{◌≡◌, ◌≤◌, ◌⊎◌, inl, inr, ◌∙◌, ℕ, ◌+◌, ◌-◌, Bool, true, Some, Result, Ok, Err, List, [], ◌++◌, length, arith, ap, sym, subst, length-append}
+use Rattle.std.proofs.Common.{◌≡◌, ◌≤◌, ◌⊎◌, inl, inr, ◌∙◌, ℕ, ◌-◌, Bool, true, Some, Result, Ok, Err, List, [], ◌++◌, length, arith, ap, sym, subst, length-append}
 use Rattle.ccp_base.specs.Limits.{most_audit_bytes, most_cases}
 use Rattle.ccp_base.specs.Outside.{Known, TakesWithin, IsAtEnd, Takes-append}
 use Rattle.ccp_words.specs.declared.mode.DriveText.{DriveText}

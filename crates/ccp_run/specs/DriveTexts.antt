@@ -63,10 +63,6 @@ IsStreamAttempt task source (Err (stop.Refused refusal)) = RefusesStream task so
 IsStreamAttempt task source (Err stop.ReadFailed) = FailsToReadStream task source
 IsStreamAttempt task source (Err stop.NoMemory) = TakesWithin (limit_of task) source.old source.new
 
--- the same as one fact
-pub record Attempts (task : Task) (source : StreamChange) (made : Result ModeOutput Stop) : Type 0 where
-  pub attempt : IsStreamAttempt task source made
-
 -- ---- its frames
 
 -- the frames of a session were answered to their end, or why they weren't

@@ -1,6 +1,7 @@
 -- The definitions of ccp_run, a file each.
 
--- those that contracts of public calls cite: streams and statuses, the rules of each mode, and a whole run
+-- those that contracts of public calls cite: streams and statuses, the rules of each mode, a whole run, and how the
+-- reading of an input of `drive` ends
 pub mod Streams
 pub mod Statuses
 pub mod ErrorLine
@@ -24,15 +25,15 @@ pub mod Rollout
 pub mod Modes
 pub mod Run
 pub mod Complete
+pub mod DriveEnds
 pub mod Settled
 pub mod TextLaws
 pub mod SharedLaws
 pub mod DriveLaws
 pub mod Tool
 -- of these two, the contract of a run cites `MakesOutput` and `RefusesAny`, `Ends` and `WritesAll`; the rest, and the
--- file after them, only private contracts and proofs cite
+-- files after them, only private contracts and proofs cite
 pub mod Attempts
 pub mod Endings
 pub mod FeedEndings
-pub mod DriveEnds
 pub mod DriveTexts

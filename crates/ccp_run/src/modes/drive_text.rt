@@ -5,7 +5,7 @@ ghost use Rattle.ccp_base.specs.Limits.{most_audit_bytes, most_cases};
 ghost use Rattle.campaign_report.specs.AcksText.{own_acks_text, own_flow_text};
 ghost use Rattle.feed_core.specs.FeedEnds.{stream};
 ghost use Rattle.ccp_run.specs.Drive.{drive_text, flow_acks, flow_names, flow_part, flow_parts, flow_row};
-ghost use Rattle.ccp_run.specs.DriveTexts.{acks_from, change, Attempts, AreOf, IsHeardOut, IsOf, IsTextMade};
+ghost use Rattle.ccp_run.specs.DriveTexts.{acks_from, change, AreOf, IsHeardOut, IsOf, IsStreamAttempt, IsTextMade};
 ghost use Rattle.ccp_run.specs.Modes.{Task};
 
 use crate::drive_end::DriveEnd;
@@ -30,7 +30,7 @@ pub fn read_drive<S: Source>(
     wire: bool,
     source: &mut S,
 ) -> Result<ModeOutput, Stop>
-    ensures { Attempts (Task.Driven shown wire)
+    ensures { IsStreamAttempt (Task.Driven shown wire)
         (change (S.remaining source.old) (S.remaining source.new) (S.faults source.old) (S.faults source.new)) result }
 {
     let mut unheard = Unheard { source };
@@ -45,7 +45,7 @@ fn drive_output<S: Source>(
     unheard: &mut Unheard<S>,
 ) -> Result<ModeOutput, Stop>
     ensures follows { unheard.new.source.ghost_name ≡ unheard.old.source.ghost_name }
-    ensures attempts { Attempts (Task.Driven shown wire)
+    ensures attempts { IsStreamAttempt (Task.Driven shown wire)
         (change (S.remaining unheard.old.source.now) (S.remaining unheard.new.source.now)
         (S.faults unheard.old.source.now) (S.faults unheard.new.source.now)) result }
 {

@@ -104,4 +104,4 @@ returns-in-Driven g c =
     let is_finished = g.K.Sink.is_finished c.end-in-Driven.new.sink in
     subst (λ (task : Task). IsRun task source sink errors is_finished c.end-in-Driven.result) (sym (ap (λ mode. task_in mode c.args.asked) c.in-Driven.is))
     (run_of_stream (Driven c.in-Driven.shown c.args.asked.wire) refl refl source sink errors is_finished c.end-in-Driven.result c.read_drive-made.result
-    c.read_drive-made.ensures.attempt c.end-in-Driven.ensures)
+    c.read_drive-made.ensures c.end-in-Driven.ensures)
