@@ -52,4 +52,4 @@ def test_the_tables_are_those_of_the_definitions():
     script = check_docs()
     findings = script.Findings()
     script.check_tables(findings)
-    assert findings.wrong == 0 and findings.checked["modes"] == 13
+    assert findings.wrong == 0 and findings.checked["modes"] == 17

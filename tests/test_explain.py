@@ -609,6 +609,51 @@ def test_the_first_example_of_the_page(program: Path) -> None:
     assert (row["epochs"], row["faults"], row["lost"], row["peak"]) == (1, 0, 2, 12 * 1448)
 
 
+# ---- inputs of drive
+
+# a scenario, its line `---`, and six frames; the sixth begins at byte 463
+DRIVEN = (EXAMPLES / "driven.drive").read_bytes()
+FRAMES = DRIVEN.index(b"---\n") + 4
+DRIVES = [
+    (DRIVEN[:FRAMES], ["frame cut at 335", "The input ends while a flow waits for a frame"]),
+    (DRIVEN[:-5], ["frame cut at 463", "   463 | 04 01 01", "The last frame has 21 of its 26 bytes."]),
+    (DRIVEN[:470], ["frame cut at 463", "The last frame has 7 of the 16 bytes of its head."]),
+    (DRIVEN[:463] + b"\t", ["frame Kind at 463", "   463 | 09\n       | ^^\n", "from 1 to 8", "byte 0 of frame 5"]),
+    (
+        DRIVEN[:-10] + b"\5",
+        ["frame Class at 479", "class 3, or to `Cwnd`", "byte 16 of frame 5, which begins at byte 463"],
+    ),
+    (DRIVEN + b"\7\1" + b"\0" * 10 + b"\x88" + b"\0" * 115 + b"\2", ["frame Flag at 617", "   594 | .. 00 00"]),
+    (DRIVEN.replace(b"\n---\n", b"\n--- \n"), ["no separator", "The line has a blank after `---`: remove it."]),
+    (DRIVEN[: FRAMES - 1], ["no separator", "The line `---` counts with its line end: end it."]),
+    (DRIVEN.replace(b'"acks":5', b'"acks":65537'), ["range cases[0].acks", "Here is 65537."]),
+    (DRIVEN.replace(b'"trace"', b'"trce"'), ["missing cases[0].trace", "did you mean `trace`?"]),
+    (DRIVEN.replace(b"\n---", b" " * LIMITS["input_bytes"] + b"\n---"), ["Before the line `---` are 1048907 bytes"]),
+    (b" " * (LIMITS["input_bytes"] + 1), ["The input has 1048577 bytes", "No line `---` is in it"]),
+]
+
+
+@pytest.mark.parametrize("data, holds", DRIVES, ids=range(len(DRIVES)))
+def test_inputs_of_drive(program: Path, data: bytes, holds: List[str]) -> None:
+    explained(program, data, "drive-table", holds=[*holds, "refused by drive-table"])
+
+
+def test_frames_after_a_scenario_are_an_input_of_drive(program: Path) -> None:
+    explained(program, DRIVEN, status=0, holds=["ccp explain: accepted by drive\n"])
+    explained(program, DRIVEN[:-1], holds=["ccp explain: refused by drive\n"])
+
+
+def test_an_agent_outside_may_use_any_program(program: Path) -> None:
+    """No case names one, and the agent reads any fields; but a program without a report tells nothing."""
+    given = DRIVEN.replace(b'"name"', b'"agent":"reno","name"')
+    explained(program, given, "drive", status=0, holds=["ccp explain: accepted by drive\n"])
+    given = DRIVEN.replace(b'"name"', b'"ss":"p","name"').replace(
+        b'{"p":', b'{"q":"(def) (when true (:= Cwnd 1))","p":'
+    )
+    holds = ["`ss` is ignored by `drive`", "program `q`: it never reports", "accepted by drive, 2 warnings"]
+    explained(program, given, "drive", status=0, holds=holds)
+
+
 # ---- that nothing is run
 
 
@@ -687,7 +732,7 @@ def test_counts_the_cases(program: Path) -> None:
 
 
 @pytest.mark.parametrize(
-    "name", ["campaign.json", "live.json", "shared.json", "rollout.json", "fault.ccp", "reno_ss.portus"]
+    "name", ["campaign.json", "live.json", "shared.json", "rollout.json", "fault.ccp", "reno_ss.portus", "driven.drive"]
 )
 def test_takes_the_examples(program: Path, name: str) -> None:
     ran = command("explain", "--ccp", program, EXAMPLES / name)

@@ -157,8 +157,21 @@ def test_it_takes_the_examples(name: str) -> None:
     assert not errors_of(None, (EXAMPLES / (name + ".json")).read_text(encoding="utf-8"))
 
 
+def test_a_driven_case_has_no_agent() -> None:
+    """It is a case of `live` without the members of an agent, which are ignored."""
+    text = (EXAMPLES / "driven.json").read_text(encoding="utf-8")
+    assert not errors_of("drive", text) and errors_of("live", text) == [("required", ["cases", 0])]
+    for name, bad in (("agent", 7), ("ss", []), ("start_us", -1), ("mark", 0), ("lag", "1")):
+        given = text.replace('"name"', '%s,"name"' % json.dumps({name: bad})[1:-1])
+        assert bool(errors_of("drive", given)) == (name in ("mark", "lag")), name
+    rules = scenarios.Rules()
+    case, driven = rules.members("case"), rules.members("drivenCase")
+    assert {name: case[name] for name in case if name not in ("agent", "ss", "ca")} == driven
+    assert all(rules.needs("case", name) == rules.needs("drivenCase", name) for name in driven)
+
+
 def test_each_member_has_a_description() -> None:
     rules = scenarios.Rules()
-    for of in ("whole", "case", "sharedCase", "rolloutCase", "bottleneck"):
+    for of in ("whole", "case", "sharedCase", "rolloutCase", "drivenCase", "bottleneck"):
         for name in rules.members(of):
             assert len(rules.allowed(of, name)) > 20, "%s of %s" % (name, of)

@@ -73,8 +73,10 @@ from .traces import Trace, read_trace, trace_text
 
 __all__ = ["Grid", "make", "read_scenario", "scenario_of", "scenario_text", "write_scenario"]
 
-# the most cases of a mode's scenario; `audit` reads one of `live`
-CASES: Dict[str, int] = {**{mode.name: mode.cases for mode in MODES.values() if mode.cases}, "audit": LIMITS["flows"]}
+# the most cases of a mode's scenario; `audit` and the modes of `drive` read as many as `live`
+CASES: Dict[str, int] = {
+    mode.name: mode.cases or LIMITS["flows"] for mode in MODES.values() if mode.cases or mode.kind in ("audit", "drive")
+}
 # the modes that `ccp over` runs in parts, with its option for each
 SPLIT = {"campaign": "", "timeline": " --timeline", "acks": " --acks"}
 LONGEST_NAME = LIMITS["scene_name_bytes"]

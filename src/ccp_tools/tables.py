@@ -9,10 +9,10 @@ from typing import Dict, List, Optional, Tuple
 class Mode:
     """A mode of the program.
 
-    `kind` is the form of its input: program, fold, campaign, live, shared, rollout, audit, feed or nothing. A kind of
-    scenario has the name of its definition in examples/scenario.schema.json. `reads` and `does` say it in words,
-    `cases` is the most cases of its scenario (None where it reads none), `options` are the names of its options
-    without dashes, `files` the FILEs that the launcher takes."""
+    `kind` is the form of its input: program, fold, campaign, live, shared, rollout, audit, feed, drive or nothing. A
+    kind of scenario has the name of its definition in examples/scenario.schema.json. `reads` and `does` say it in
+    words, `cases` is the most cases of its scenario (None where it reads none, or one and more), `options` are the names
+    of its options without dashes, `files` the FILEs that the launcher takes."""
 
     name: str
     kind: str
@@ -180,6 +180,50 @@ MODES: Dict[str, Mode] = {
         page="docs/frames.md",
         example="grep -v '^#' examples/feed.hex | xxd -r -p | ./ccp feed | xxd -p",
     ),
+    "drive": Mode(
+        name="drive",
+        kind="drive",
+        reads="a scenario and frames",
+        does="lets your own agent drive flows on the link, and tells it what they report",
+        cases=None,
+        options=(),
+        files=("SCENARIO", "FRAMES"),
+        page="docs/drive.md",
+        example="./ccp drive examples/driven.drive | xxd -p",
+    ),
+    "drive-table": Mode(
+        name="drive-table",
+        kind="drive",
+        reads="a scenario and frames",
+        does="prints the table of driven flows",
+        cases=None,
+        options=("wire",),
+        files=("SCENARIO", "FRAMES"),
+        page="docs/drive.md",
+        example="./ccp drive-table examples/driven.drive",
+    ),
+    "drive-timeline": Mode(
+        name="drive-timeline",
+        kind="drive",
+        reads="a scenario and frames",
+        does="prints every report of driven flows",
+        cases=None,
+        options=("wire",),
+        files=("SCENARIO", "FRAMES"),
+        page="docs/drive.md",
+        example="./ccp drive-timeline examples/driven.drive",
+    ),
+    "drive-acks": Mode(
+        name="drive-acks",
+        kind="drive",
+        reads="a scenario and frames",
+        does="prints every acknowledgement of driven flows",
+        cases=None,
+        options=(),
+        files=("SCENARIO", "FRAMES"),
+        page="docs/drive.md",
+        example="./ccp drive-acks examples/driven.drive",
+    ),
     "soak": Mode(
         name="soak",
         kind="nothing",
@@ -227,7 +271,7 @@ OPTIONS: Dict[str, Option] = {
         least=None,
         most=None,
         does="prints the Install frames of the programs first",
-        modes=("live", "campaign", "timeline", "shared-timeline"),
+        modes=("live", "campaign", "timeline", "shared-timeline", "drive-table", "drive-timeline"),
     ),
 }
 

@@ -2,7 +2,7 @@
 # Runs the program beside the launcher, where something is left to say after it: at a terminal, and where its output is a pipe.
 
 # Runs the program $1 beside this shell, prints its error line, and sets `status`. At a terminal the seconds of a long run
-# are counted, except where what is typed is the input, and in `feed`, whose user answers.
+# are counted, except where what is typed is the input, and in `feed` and `drive`, at whose other end an agent answers.
 run_beside() {
     local input errors output both passed child counter='' filter='' interrupted='' begun=$SECONDS
     if [ -t 2 ]; then name_ignored; fi
@@ -13,7 +13,7 @@ run_beside() {
     else
         exec {input}<&0
     fi
-    if [ -t 2 ] && [ "$mode" != feed ] && { [ ! -t "$input" ] || [ "${kind_of[$mode]}" = nothing ]; }; then
+    if [ -t 2 ] && ! is_one_of "$mode" feed drive && { [ ! -t "$input" ] || [ "${kind_of[$mode]}" = nothing ]; }; then
         count_seconds &
         counter=$!
     fi

@@ -61,7 +61,7 @@ Commands, from traces to figures (Python):'
     done
     join_by ', ' "${statuses[@]}"
     printf '%s\n' "
-  fold PROGRAM ACKS and audit SCENARIO TEXT take two FILEs, which are joined by the line ---.
+  fold PROGRAM ACKS, audit SCENARIO TEXT and drive SCENARIO FRAMES take two FILEs, which are joined by the line ---.
   MODE --help      what a mode reads and prints, and its options
   COMMAND --help   what a command does, and its arguments
   --version, -V    the version, the commit, which program runs, and the toolchain that proved it

@@ -14,6 +14,10 @@ mode_rows=(
     'rollout	a scenario of a rollout	installs programs while their flows run, and prints every report	docs/rollout.md	./ccp rollout --datapaths 2 --agents 2 examples/rollout.json'
     'audit	a scenario and a live text	judges whether live could have printed the text	docs/audit.md	./ccp live examples/live.json > live.txt; ./ccp audit examples/live.json live.txt'
     'feed	frames	answers each frame as a datapath does, for your own agent	docs/frames.md	grep -v '"'"'^#'"'"' examples/feed.hex | xxd -r -p | ./ccp feed | xxd -p'
+    'drive	a scenario and frames	lets your own agent drive flows on the link, and tells it what they report	docs/drive.md	./ccp drive examples/driven.drive | xxd -p'
+    'drive-table	a scenario and frames	prints the table of driven flows	docs/drive.md	./ccp drive-table examples/driven.drive'
+    'drive-timeline	a scenario and frames	prints every report of driven flows	docs/drive.md	./ccp drive-timeline examples/driven.drive'
+    'drive-acks	a scenario and frames	prints every acknowledgement of driven flows	docs/drive.md	./ccp drive-acks examples/driven.drive'
     'soak	nothing	prints the sums of 64 generated cases	-	./ccp soak --number 7 --workers 4'
 )
 # of each sub-command its name and what it does, with a tab between

@@ -4,7 +4,8 @@
 
 Without a file, or with -, it reads standard input. It asks the program, and never says otherwise: what the program
 refuses is refused here, with its line and column, the line itself with a caret, and a sentence; all else is accepted.
-The program reads the input and runs nothing, but for the acknowledgements of fold, so the answer comes at once.
+The program reads the input and runs nothing, but for the acknowledgements of fold and the frames of drive, so the
+answer comes at once.
 
     $ ccp explain mine.json
     mine.json:7:26: refused: range cases[0].queue
@@ -23,8 +24,8 @@ looks like another name, a block that is never reached, a field that makes an ag
 never moves, and a sum or product of +infinity.
 
 Without --for, a text that begins with ( is a program, one with a line --- too is an input of fold, and one that
-begins with { a scenario: of rollout where its cases have steps or cwnd, of shared where it has that member, else of
-campaign.
+begins with { a scenario: of drive or of audit where a line --- and frames or lines follow, of rollout where its cases
+have steps or cwnd, of shared where it has that member, else of campaign.
 
 Exit status: 0 accepted, perhaps with warnings; 1 refused; 2 wrong arguments, or no program to ask."""
 from .command import add_arguments, run

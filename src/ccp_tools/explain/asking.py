@@ -11,7 +11,7 @@ from typing import List, Optional, Tuple, Union
 from .. import program as programs
 from ..errors import NoProgram
 from ..tables import LIMITS, MODES
-from . import folds
+from . import driven, folds
 from .json_places import NotJson, Value, read
 
 Path_ = Union[str, Path, None]
@@ -35,6 +35,8 @@ def refusal_of(program: Path_, mode: str, data: bytes) -> Tuple[Optional[str], s
     kind = MODES[mode].kind
     if kind in ("program", "fold"):
         return asked(program, mode, data)
+    if kind == "drive":
+        return refusal_of_driven(program, mode, data), ""
     if kind == "audit":
         separator = folds.separator_in(data)
         if separator is None or len(data) > LIMITS["audit_bytes"]:
@@ -43,6 +45,18 @@ def refusal_of(program: Path_, mode: str, data: bytes) -> Tuple[Optional[str], s
     else:
         ask = Scenario(program, mode, data, b"")
     return ask.refusal(), ""
+
+
+def refusal_of_driven(program: Path_, mode: str, data: bytes) -> Optional[str]:
+    """What the program refuses in an input of a mode of `drive`, or None: in its scenario, without running it, or in
+    its frames, for which it runs."""
+    separator = driven.separator_in(data)
+    if separator is not None and separator[0] <= LIMITS["input_bytes"]:
+        reason = Scenario(program, mode, data[: separator[0]], b"---\n").refusal()
+        # it ends where the frames begin, as it has none
+        if reason is not None and not reason.startswith("frame cut "):
+            return reason
+    return asked(program, mode, data)[0]
 
 
 class Scenario:

@@ -9,8 +9,8 @@ from ..arguments import add_ccp
 from ..errors import CcpError
 from ..files import name_of, read_bytes
 from ..program import find_program
-from ..tables import MODES
-from . import asking, folds, program_refusals, program_warnings, scenario_refusals, scenario_warnings
+from ..tables import LIMITS, MODES
+from . import asking, driven, folds, program_refusals, program_warnings, scenario_refusals, scenario_warnings
 from .findings import Finding, Text, hints_of_file, looks_like_trace, printed
 from .scenarios import Scenario
 
@@ -34,6 +34,8 @@ def mode_of(given: Given) -> str:
     begins = given.text.lstrip("\ufeff \t\r\n")[:1]
     separated = folds.separator_in(given.data) is not None or folds.has_near_separator(given.text)
     if begins in ("{", "[") or '"cases"' in given.text and begins != "(":
+        if driven.looks_driven(given.data):
+            return "drive"
         return "audit" if separated else Scenario(given.name, given.text).mode()
     if separated or folds.has_ack_lines(given.text):
         return "fold"
@@ -46,16 +48,24 @@ def mode_of(given: Given) -> str:
 def too_long(given: Given, mode: str, reason: str) -> Finding:
     """The finding of an input that is too long."""
     limit = int(reason.split()[2])
-    hints = ["The input has %d bytes, and at most %d are taken." % (len(given.data), limit)]
+    is_of_scenario = limit == LIMITS["input_bytes"]
+    separated = separated_in(given, mode)
+    if separated and is_of_scenario:
+        hints = ["Before the line `---` are %d bytes, and at most %d are taken." % (separated[0], limit)]
+    else:
+        hints = ["The input has %d bytes, and at most %d are taken." % (len(given.data), limit)]
+        if is_of_scenario and MODES[mode].kind == "drive":
+            hints.append("No line `---` is in it, which ends the scenario.")
     if looks_like_trace(given.text):
         hints.append(
             "This looks like a trace: a scenario holds it in its member `traces`. `ccp trace cut` shortens it."
         )
-    elif mode in SCENARIOS:
+    elif is_scenario(mode) and is_of_scenario:
         option = scenario_refusals.SPLIT.get(mode)
         over = "; `ccp over%s` runs it in parts" % option if option is not None else ""
         hints.append("Shorten the traces or take fewer cases%s." % over)
-    return Finding("refused", 0, 0, reason, hints_of_file(given.data) + hints)
+    front = given.data[: separated[0]] if separated else given.data
+    return Finding("refused", 0, 0, reason, hints_of_file(front) + hints)
 
 
 def in_bytes(given: Given, found: Finding) -> Finding:
@@ -75,6 +85,8 @@ def refusal_of(given: Given, mode: str, reason: str) -> Tuple[Text, Finding]:
         return text, folds.no_separator(given.text, reason)
     if reason.startswith("acknowledgement line "):
         return text, in_bytes(given, folds.line_refusal(given.latin, int(reason.split()[2]), reason))
+    if reason.startswith("frame "):
+        return text, in_bytes(given, driven.frame_refusal(given.data, reason))
     if reason == "too many acknowledgements":
         return text, in_bytes(given, folds.too_many(given.latin, reason))
     if MODES[mode].kind in ("program", "fold") and reason.startswith("program "):
@@ -85,15 +97,28 @@ def refusal_of(given: Given, mode: str, reason: str) -> Tuple[Text, Finding]:
     return scenario.text, scenario_refusals.refusal_of(scenario, mode, reason)
 
 
+def separated_in(given: Given, mode: str) -> Optional[Tuple[int, int]]:
+    """Where the line `---` of an input of a mode begins, and where the next line does; None where it has none."""
+    kind = MODES[mode].kind
+    if kind == "drive":
+        return driven.separator_in(given.data)
+    return folds.separator_in(given.data) if kind in ("fold", "audit") else None
+
+
+def is_scenario(mode: str) -> bool:
+    """Whether a mode reads a scenario, alone or before a line `---`."""
+    return MODES[mode].kind not in ("program", "fold")
+
+
 def program_in(given: Given, mode: str) -> str:
     """The program's text of an input, one character a byte; in `fold` it is what is before the separator."""
-    separated = folds.separator_in(given.data) if MODES[mode].kind == "fold" else None
+    separated = separated_in(given, mode)
     return given.latin[: separated[0]] if separated else given.latin
 
 
 def scenario_in(given: Given, mode: str) -> Scenario:
-    """The scenario of an input; in `audit` it is what is before the separator."""
-    separated = folds.separator_in(given.data) if MODES[mode].kind == "audit" else None
+    """The scenario of an input; in `audit` and the modes of `drive` it is what is before the separator."""
+    separated = separated_in(given, mode)
     data = given.data[: separated[0]] if separated else given.data
     return Scenario(given.name, data.decode("utf-8", "surrogateescape"))
 
@@ -108,7 +133,7 @@ def remarks_on_program(given: Given, mode: str, output: str) -> List[Finding]:
     found = [
         Finding("warning", one.start, one.end, one.text, list(one.hints)) for one in program_warnings.warnings_of(text)
     ]
-    separated = folds.separator_in(given.data) if MODES[mode].kind == "fold" else None
+    separated = separated_in(given, mode)
     fault = folds.fault_of(source, given.latin[separated[1] :], output) if separated else None
     return [in_bytes(given, one) for one in ([fault] if fault else []) + found]
 
@@ -116,12 +141,11 @@ def remarks_on_program(given: Given, mode: str, output: str) -> List[Finding]:
 def explained(program: Optional[Path], given: Given, mode: str) -> Tuple[bool, Text, List[Finding]]:
     """Whether the program refuses an input, the text, and what is found in it."""
     reason, output = asking.refusal_of(program, mode, given.data)
-    is_scenario = MODES[mode].kind not in ("program", "fold")
     if reason is not None:
         text, found = refusal_of(given, mode, reason)
-        more = scenario_warnings.warnings_of(scenario_in(given, mode), mode, False) if is_scenario else []
+        more = scenario_warnings.warnings_of(scenario_in(given, mode), mode, False) if is_scenario(mode) else []
         return True, text, [found, *more]
-    if not is_scenario:
+    if not is_scenario(mode):
         return False, Text(given.name, given.text), remarks_on_program(given, mode, output)
     scenario = scenario_in(given, mode)
     return False, scenario.text, scenario_warnings.warnings_of(scenario, mode)

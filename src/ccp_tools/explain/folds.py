@@ -54,6 +54,9 @@ def no_separator(text: str, reason: str) -> Finding:
     at = 0
     for line in text.split("\n"):
         bare = line.strip()
+        if line in ("---", "---\r"):
+            hint = "The line `---` counts with its line end: end it."
+            return Finding("refused", at, at + 3, reason, [hint])
         if bare == "---":
             where = "after" if line.startswith("---") else "before"
             hint = "The line has a blank %s `---`: remove it." % where

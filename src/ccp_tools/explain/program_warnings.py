@@ -32,16 +32,18 @@ class Warning:
         return "%d:%d: %s" % (self.line, self.column, self.text)
 
 
-def warnings_of(program_text: str) -> List[Warning]:
-    """The warnings of a program that `ccp` accepts, in the order of their places."""
-    return Watch(Program.of(program_text)).warnings()
+def warnings_of(program_text: str, is_outside: bool = False) -> List[Warning]:
+    """The warnings of a program that `ccp` accepts, in the order of their places. `is_outside` says that an agent
+    outside answers its reports, which reads any fields."""
+    return Watch(Program.of(program_text), is_outside).warnings()
 
 
 class Watch:
     """A program that is looked through. `found` are the warnings so far."""
 
-    def __init__(self, program: Program) -> None:
+    def __init__(self, program: Program, is_outside: bool = False) -> None:
         self.program = program
+        self.is_outside = is_outside
         self.found: List[Warning] = []
         self.infinite = infinite_names(program)
         self.reached = list(self._reached())
@@ -58,7 +60,8 @@ class Watch:
         for body in self.program.blocks():
             self._locals(body)
         self._infinities()
-        self._fields()
+        if not self.is_outside:
+            self._fields()
         self._reports()
         return sorted(self.found, key=lambda one: one.start)
 

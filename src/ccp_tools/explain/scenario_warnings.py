@@ -69,6 +69,9 @@ def unknown(scenario: Scenario, mode: str, of: str, value: Value) -> Iterator[Fi
         key = value.members(name)[-1][0]
         if name in known or (of == "whole" and name == "shared" and reads(mode) == "shared"):
             continue
+        # an agent inside beside the one outside: `campaign` runs the same cases
+        if name == "agent" and reads(mode) == "drive":
+            continue
         if name in others:
             yield Finding("warning", key.start, key.end, "`%s` is ignored by `%s`" % (name, mode))
             continue
@@ -99,6 +102,9 @@ def unused(scenario: Scenario, mode: str) -> Iterator[Finding]:
     shared = scenario.whole.member("shared")
     users = [*scenario.cases(), *([shared] if shared else [])]
     members = {"trace": ["trace"], "program": ["steps"] if reads(mode) == "rollout" else ["ss", "ca"]}
+    if reads(mode) == "drive":
+        # an agent outside chooses among all programs
+        del members["program"]
     for of, names in members.items():
         table, used = scenario.table(of + "s"), texts_of(users, names)
         if not used <= set(table):
@@ -147,14 +153,15 @@ def of_times(scenario: Scenario, mode: str) -> Iterator[Finding]:
 
 
 def of_programs(scenario: Scenario, mode: str) -> Iterator[Finding]:
-    """The warnings of the programs that some case uses."""
-    members = ["steps"] if reads(mode) == "rollout" else ["ss", "ca"]
-    used = texts_of(scenario.cases(), members)
-    for name, (_, value) in scenario.table("programs").items():
+    """The warnings of the programs that some case uses, and of all that an agent outside may use."""
+    programs = scenario.table("programs")
+    is_outside = reads(mode) == "drive"
+    used = set(programs) if is_outside else texts_of(scenario.cases(), ["ss", "ca"])
+    for name, (_, value) in programs.items():
         if name not in used or value.kind != "text" or reads(mode) == "rollout":
             continue
         data = value.is_.encode("utf-8", "surrogatepass")
-        for warning in program_warnings.warnings_of(value.is_):
+        for warning in program_warnings.warnings_of(value.is_, is_outside):
             what = "program `%s`: %s" % (cut(name), warning.text)
             found = Finding("warning", warning.start, warning.end, what, list(warning.hints))
             place_within(found, value, data)

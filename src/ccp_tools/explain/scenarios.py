@@ -14,7 +14,7 @@ from .json_places import Value
 
 SCHEMA = Path(__file__).resolve().parent / "scenario.schema.json"
 # the rules of a case by the kind of scenario, where they aren't those of `case`
-CASES = {"shared": "sharedCase", "rollout": "rolloutCase"}
+CASES = {"shared": "sharedCase", "rollout": "rolloutCase", "drive": "drivenCase"}
 NAME = re.compile("[A-Za-z0-9_.-]{1,32}")
 STEP = re.compile(r"([a-z_]+)(?:\[([0-9]+)\])?(?:\.(.*))?", re.DOTALL)
 Pair = Tuple[Value, Value]
@@ -22,7 +22,7 @@ Pair = Tuple[Value, Value]
 
 class Rules:
     """What the schema says of members: what is allowed, by object and name. The objects are `whole`, `case`,
-    `sharedCase`, `rolloutCase` and `bottleneck`."""
+    `sharedCase`, `rolloutCase`, `drivenCase` and `bottleneck`."""
 
     def __init__(self) -> None:
         self.definitions = json.loads(SCHEMA.read_text(encoding="utf-8"))["definitions"]
