@@ -6,7 +6,7 @@ use Rattle.ccp_base.specs.Outside.{Known, Rose, Takes, Appends, AppendsPrefix, A
 use Rattle.feed_core.specs.declared.ending.FeedEnd.{FeedEnd}
 use Rattle.feed_core.specs.declared.ending.FeedEnd.TheVariants as ends
 use Rattle.feed_core.specs.Answering.{Answering, after}
-use Rattle.feed_core.specs.FeedEnds.{Stream, stream, AreHandedOn, AnswersInput, AllowsAnswered, IsFed, StaysFinished, FeedFailsToWrite}
+use Rattle.feed_core.specs.FeedEnds.{Stream, stream, AreHandedOn, AnswersInput, IsFed, StaysFinished, FeedFailsToWrite}
 use Rattle.feed_core.specs.FeedStops.{StopsAnswer}
 use Rattle.feed_core.specs.declared.answering.Unanswered.{Unanswered}
 use Rattle.feed_core.specs.declared.answering.Unanswered.TheVariants as unanswered
@@ -23,9 +23,6 @@ takes-nothing old (Some left) same = sym same
 -- a count that rose late, or early
 pub rose-late : (before middle now : ℕ) → before ≤ middle → middle ≤ now → Rose middle now → Rose before now
 rose-late before middle now first grown rose = search rules
-
-pub rose-early : (before middle now : ℕ) → Rose before middle → middle ≤ now → Rose before now
-rose-early before middle now rose grown = search rules
 
 -- what was handed on, and then the rest
 pub both-handed : (first next : List ℕ) (was is : Type 0) → AreHandedOn first was → (was → is) → AreHandedOn next is → AreHandedOn (first ++ next) is
@@ -110,15 +107,3 @@ first-fails a first before source source' rb rn old new wb wn same rose front = 
   rose = rose;
   front = prefix-first old new first (a.written (before ++ [])) front;
 }
-
--- where a read is allowed after a first frame
-pub allowed-after : {S D : Type 0} (a : Answering S) (first before : List ℕ) (remaining written : D → Known) (is_finished : D → Type 0) (Follows : D → D → Type 0) (MayRead : D → Type 0) (old mid : D)
-    → ((first middle last : D) → Follows first middle → Follows middle last → Follows first last)
-    → AllowsAnswered (after before (beginning_with first a)) remaining written is_finished Follows MayRead old
-    → Follows old mid → remaining mid ≡ remaining old → Appends (written old) (written mid) first → AreHandedOn first (is_finished mid) → (is_finished old → is_finished mid)
-    → AllowsAnswered (after before a) remaining written is_finished Follows MayRead mid
-allowed-after a first before remaining written is_finished Follows MayRead old mid on allowed follows same wrote handed kept now taken goes takes appends done stays =
-    allowed now taken (on old mid now follows goes) (subst (λ k. Takes k (remaining now) taken) same takes)
-    (Appends-append (written old) (written mid) (written now) first (a.written (before ++ taken)) wrote appends)
-    (both-handed first (a.written (before ++ taken)) (is_finished mid) (is_finished now) handed stays done)
-    (λ was. stays (kept was))

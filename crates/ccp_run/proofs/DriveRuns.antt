@@ -13,7 +13,7 @@ use Rattle.scene_core.specs.CasePlans.{plan_of}
 use Rattle.scene_core.specs.CompiledPrograms.{AreCompiled}
 use Rattle.scenario_json.specs.Scene.{Scene, scene_with}
 use Rattle.driven_flow.specs.Driven.{ReadsAlike, codes_of}
-use Rattle.driven_flow.specs.Front.{AllowsFront, divided}
+use Rattle.driven_flow.specs.Front.{divided}
 use Rattle.driven_flow.proofs.FrontLineLemmas.{divided-goes-on}
 use Rattle.driven_flow.specs.Session.{SessionState, opening}
 use Rattle.driven_flow.proofs.DrivenLiftLemmas.{reads-alike}
@@ -27,7 +27,7 @@ use Rattle.ccp_run.specs.Drive.{IsDriven}
 use Rattle.ccp_run.specs.DriveEnds.{AnswersDrive, AllowsDrive, IsDriveEnd, OpensDrive, StopsOpening, IsSessionEnd, end_at, end_in}
 use Rattle.ccp_run.specs.DriveInputs.{divided_at, beginning_of, codes_from, begun, driven_by, driving, written_in, drive_written, end_refusal, refusal_in, drive_refusal, IsOpenAt, IsOpenDrive, flows_in, driven_flows}
 use Rattle.ccp_run.proofs.DriveFrames.{appends-nothing, rose-late}
-use Rattle.ccp_run.proofs.DriveFronts.{divided-there, undivided-silent, head-of}
+use Rattle.ccp_run.proofs.DriveFronts.{divided-there, head-of}
 use Rattle.ccp_run.proofs.DriveSessions.{IsSessionOf, opening-holds, frames-hold}
 use Rattle.ccp_run.proofs.PlannedLemmas.{planned_all}
 
@@ -39,13 +39,6 @@ codes-same (program ∷ rest) are =
     λ i. (program.0, (are 0 program (omega arith)).code i) ∷ codes-same rest (λ k d h. are (suc k) d (omega (arith, h))) i
 
 -- ---- before the frames
-
--- what is read before the line `---` is open, so nothing is to be written for it
-pub allowed-front : {D : Type 0} (remaining written : D → Known) (is_finished : D → Type 0) (Follows : D → D → Type 0) (MayRead : D → Type 0) (begin : D)
-    → AllowsDrive remaining written is_finished Follows MayRead begin → AllowsFront remaining written is_finished Follows MayRead begin
-allowed-front remaining written is_finished Follows MayRead begin allowed now taken follows takes same stays unread =
-    let silent = undivided-silent taken unread.none in
-    allowed now taken follows takes (subst (Appends (written begin) (written now)) (sym silent) (appends-nothing (written begin) (written now) same)) (inl silent) stays
 
 module _ (source sink : Stream) (is_finished : Type 0) (same : sink.new ≡ sink.old) where
   unanswered : (bytes : List ℕ) → Takes source.old source.new bytes → drive_written bytes ≡ [] → AnswersDrive source sink is_finished bytes

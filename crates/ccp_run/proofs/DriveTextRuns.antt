@@ -1,5 +1,5 @@
 -- The text of driven flows, from how their scenario was read and how their frames then ended.
-use Rattle.std.proofs.Common.{◌≡◌, ◌≤◌, ◌⊎◌, inl, inr, ◌∙◌, ℕ, ◌-◌, Bool, true, Some, Result, Ok, Err, List, [], ◌++◌, length, arith, ap, sym, subst, length-append}
+use Rattle.std.proofs.Common.{◌≡◌, ◌≤◌, ◌⊎◌, inl, inr, ◌∙◌, ℕ, ◌-◌, Bool, true, Some, Result, Ok, Err, List, ◌++◌, length, arith, ap, sym, subst, length-append}
 use Rattle.ccp_base.specs.Limits.{most_audit_bytes, most_cases}
 use Rattle.ccp_base.specs.Outside.{Known, TakesWithin, IsAtEnd, Takes-append}
 use Rattle.ccp_words.specs.declared.mode.DriveText.{DriveText}
@@ -19,7 +19,7 @@ use Rattle.ccp_run.specs.declared.stop.Stop.TheVariants as stop
 use Rattle.ccp_run.specs.Attempts.{RefusesAny}
 use Rattle.ccp_run.specs.Drive.{IsDriven, drive_text}
 use Rattle.ccp_run.specs.DriveInputs.{drive_refusal, driven_by, driven_flows}
-use Rattle.ccp_run.specs.DriveEnds.{RefusesDrive, IsDriveEnd, IsSessionEnd, OpensDrive, StopsOpening, end_at, end_in}
+use Rattle.ccp_run.specs.DriveEnds.{RefusesDrive, IsDriveEnd, IsSessionEnd, OpensDrive, end_at, end_in}
 use Rattle.ccp_run.specs.DriveTexts.{AreOf, IsHeardOut, IsStreamAttempt, IsTextMade, MakesText, RefusesStream}
 use Rattle.ccp_run.specs.Modes.{Task, Driven}
 use Rattle.ccp_run.specs.Streams.{StreamChange}
@@ -34,21 +34,6 @@ module _ (text : DriveText) (wire : Bool) where
   change_of s = record { old = s.old; new = s.new; before = s.before; now = s.now }
 
   -- ---- no scenario
-
-  pub text-stops : (source : Stream) (why : Stop) → StopsOpening source why → IsStreamAttempt task (change_of source) (Err why)
-  text-stops source (stop.Refused refusal) r =
-      let few = r.within in
-      record {
-        cause = cause r.cause;
-        most = record { taken = r.bytes; takes = r.taken; within = omega (arith, few) };
-        over = inl (record { taken = r.bytes; takes = r.taken; within = omega (arith, few) });
-      }
-    where
-      cause : ((more : List ℕ) → drive_refusal (r.bytes ++ more) ≡ Some refusal) ⊎ (IsAtEnd source.new × (drive_refusal r.bytes ≡ Some refusal)) → RefusesAny true task (change_of source) refusal
-      cause (inl early) = inl (record { bytes = r.bytes; taken = r.taken; cause = early })
-      cause (inr at) = inr (record { bytes = r.bytes; read = record { taken = r.taken; end = at.0 }; short = let few = r.within in omega (arith, few); cause = at.1 })
-  text-stops source stop.ReadFailed f = record { rose = f.rose; taken = f.bytes; takes = f.taken; within = let few = f.within in omega (arith, few); goes_on = f.goes_on }
-  text-stops source stop.NoMemory f = record { taken = f.front ++ f.rest; takes = f.taken; within = let few = f.within in omega (arith, few) }
 
   -- ---- frames
 
@@ -144,9 +129,6 @@ module _ (text : DriveText) (wire : Bool) where
             record { taken = f.bytes; takes = f.taken; within = omega (arith, few, ap length f.parts, length-append before f.bytes) }
 
     module _ (h : IsHeardOut before opened.place (opening (codes_of opened.programs) opened.cases) session source sink (Ok tt)) where
-      -- out of memory for the text
-      pub untold : TakesWithin (most_audit_bytes - opened.place - length before) source.old source.new
-      untold = record { taken = h.0.bytes; takes = h.0.answered.taken; within = h.0.within }
 
       -- the flows have the programs, and are no more than the cases
       pub flows-few : length opened.cases ≤ most_cases → length session.ended ≤ most_cases
@@ -157,6 +139,3 @@ module _ (text : DriveText) (wire : Bool) where
 
       pub flows-own : AreOf opened.programs session.ended
       flows-own k flow at = sym ((session-at before opened session h.0.bytes h.0.state_is).ended k flow at)
-
-      pub text-told : (output : ModeOutput) → output.programs ≡ opened.programs → output.text ≡ drive_text text wire opened.programs session.ended → output.books ≡ [] → output.ran ≡ 0 → IsTextMade text wire before opened source sink (Ok output)
-      text-told output kept written none idle = record { session = session; whole = h; kept = kept; written = written; no_books = none; idle = idle }

@@ -1,5 +1,5 @@
 -- Lines of a scenario's text: what follows bytes without a line feed, and what ends the text.
-use Rattle.std.proofs.Common.{◌≡◌, ◌≢◌, ◌⊎◌, inl, inr, ℕ, zero, suc, ◌<◌, ◌≤◌, Bool, true, false, Option, Some, None, List, [], ◌∷◌, ◌++◌, length, take, drop, slice_index, refl, ap, sym, ◌∙◌, arith, cond, if◌then◌else◌, eqb, append_assoc, append-nil, length-append, take-append-drop}
+use Rattle.std.proofs.Common.{◌≡◌, ◌≢◌, ◌⊎◌, inl, inr, ℕ, zero, suc, ◌<◌, ◌≤◌, Bool, true, false, Option, Some, None, List, [], ◌∷◌, ◌++◌, length, take, drop, slice_index, refl, ap, sym, ◌∙◌, arith, cond, if◌then◌else◌, eqb, append_assoc, append-nil, length-append}
 use Rattle.std.proofs.Math.Seq.{take-length}
 use Rattle.std.proofs.lemmas.Option.{same_Some, none-some}
 use Rattle.std.proofs.lemmas.Slice.Eq.{bytes_eq-Decides, starts_is}
@@ -11,7 +11,7 @@ use Rattle.ccp_base.specs.Parts.{separates, without_last}
 use Rattle.fold_run.specs.FirstPart.{first_of}
 use Rattle.fold_run.specs.Separated.{is_separator}
 use Rattle.driven_flow.specs.Front.{with_front, divided_from, DividedGoesOn}
-use Rattle.driven_flow.specs.FrontLines.{longest_separator, IsOther, EndsText, GoesOn, IsUndecided}
+use Rattle.driven_flow.specs.FrontLines.{longest_separator, IsOther, GoesOn, IsUndecided}
 
 abbrev pub Parted : Type 0
 Parted = Option (List ℕ × List ℕ)
@@ -91,16 +91,6 @@ to-feed line (byte ∷ rest) more (suc at) within before is b sep =
     other_than : (b : Bool) → b ≢ true → b ≡ false
     other_than true differs = absurd (differs refl)
     other_than false differs = refl
-
--- a line that is `---` ends the text
-pub ends-text : (line text : List ℕ) (at : ℕ) → at < length text → ((k : ℕ) → 0 ≤ k → k < at → eqb (slice_index text k) 10 ≢ true) → eqb (slice_index text at) 10 ≡ true
-    → line ≡ [] → is_separator (take at text) ≡ true → EndsText line text (suc at)
-ends-text line text at within before is first sep = record {
-  first = first;
-  divided_is =
-      ap (divided_from line) (sym (take-append-drop (suc at) text))
-      ∙ to-feed line text (drop (suc at) text) at within before is true (ap (λ l. is_separator (l ++ take at text)) first ∙ sep);
-}
 
 -- another line goes on
 pub goes-on : (line text : List ℕ) (at : ℕ) → at < length text → ((k : ℕ) → 0 ≤ k → k < at → eqb (slice_index text k) 10 ≢ true) → eqb (slice_index text at) 10 ≡ true

@@ -6,48 +6,13 @@ use Rattle.ccp_base.specs.Limits.{most_frame_bytes, most_input_bytes}
 use Rattle.feed_core.specs.FeedEnds.{Stream, stream}
 use Rattle.driven_flow.specs.declared.front.FrontFault.{FrontFault}
 use Rattle.driven_flow.specs.declared.front.FrontFault.TheVariants.{TooLong, NoSeparator, ReadFailed, NoMemory}
-use Rattle.driven_flow.specs.Front.{with_front, divided_from, divided, front_in, IsOverlong, IsOpen, IsDivided, IsTooLong, IsFrontFault}
-use Rattle.driven_flow.specs.FrontLines.{IsWithinLine, EndsText, GoesOn, CanEnd, IsUndecided, IsMoved, AddsBytes, IsMore, IsReading, IsTextRead}
-use Rattle.driven_flow.proofs.FrontLineLemmas.{Parted, front-none, front-twice, longer-text}
-
-takes-nothing : (known : Known) → Takes known known []
-takes-nothing None = refl
-takes-nothing (Some bytes) = refl
+use Rattle.driven_flow.specs.Front.{with_front, divided_from, divided, front_in, IsOverlong, IsOpen, IsTooLong, IsFrontFault}
+use Rattle.driven_flow.specs.FrontLines.{IsWithinLine, GoesOn, CanEnd, IsUndecided, IsMoved, AddsBytes, IsMore, IsReading, IsTextRead}
+use Rattle.driven_flow.proofs.FrontLineLemmas.{Parted, front-twice, longer-text}
 
 -- a count that rose late
 rose-late : (before middle now : ℕ) → before ≤ middle → Rose middle now → middle ≤ now → Rose before now
 rose-late before middle now first rose grown = search rules
-
--- where a reading begins
-pub reading-first : (source : Known) (text rest : List ℕ) → text ≡ [] → rest ≡ [] → IsReading source source text rest false
-reading-first source text rest no_text no_rest = record {
-  taken = subst (Takes source source) (sym (ap (λ xs. xs ++ rest) no_text ∙ no_rest)) (takes-nothing source);
-  whole = [];
-  line = [];
-  text_is = no_text;
-  inside_is = refl;
-  goes = λ more. ap (λ xs. divided (xs ++ more)) no_text ∙ sym (front-none (divided more));
-}
-
--- with the line `---` it ends
-pub reading-ends : (source source' : Known) (before now : ℕ) (text rest rest' : List ℕ) (inside : Bool) (count : ℕ)
-    (r : IsReading source source' text rest inside) → EndsText r.line rest count → rest' ≡ drop count rest → (0 < count) × (count ≤ length rest) → length text ≤ most_input_bytes → length rest ≤ most_frame_bytes
-    → IsDivided (stream source source' before now) text rest' (length text + count)
-reading-ends source source' before now text rest rest' inside count r ends left counted within few =
-    let behind : length rest' ≡ length rest - count = ap length left ∙ length-drop count rest in
-    record {
-      bytes = text ++ rest;
-      taken = r.taken;
-      divided_is =
-          r.goes rest
-          ∙ ap (with_front r.whole) ends.divided_is
-          ∙ ap (λ xs. Some (xs, drop count rest)) (ap (λ xs. r.whole ++ xs) (sym ends.first) ∙ sym r.text_is)
-          ∙ ap (λ xs. Some (text, xs)) (sym left);
-      within = within;
-      eaten_is = omega (arith, behind, counted.0, counted.1, length-append text rest);
-      short = omega (arith, behind, counted.0, counted.1, few);
-      few = omega (arith, within, few, length-append text rest);
-    }
 
 -- bytes that go on are moved to the text
 pub reading-moves : (source source' : Known) (text rest text' rest' : List ℕ) (inside inside' : Bool) (count : ℕ)

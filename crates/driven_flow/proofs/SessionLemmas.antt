@@ -1,5 +1,5 @@
 -- A session's messages have frames, and a flow that goes on comes to its next ticket or to its end.
-use Rattle.std.specs.Prelude.{◌≡◌, ◌≢◌, ℕ, zero, suc, ◌+◌, ◌*◌, ◌<◌, ◌≤◌, nat_lt, if◌then◌else◌, Bool, true, false, Option, Some, None, length, refl}
+use Rattle.std.specs.Prelude.{◌≡◌, ◌≢◌, ℕ, zero, suc, ◌+◌, ◌*◌, ◌<◌, ◌≤◌, nat_lt, if◌then◌else◌, Bool, true, false, Option, Some, length, refl}
 use Rattle.std.proofs.Common.{arith, ap, sym, ◌∙◌, subst}
 use Rattle.std.proofs.lemmas.Bool.Decides.{nat_tests}
 use Rattle.ccp_base.specs.Limits.{most_fields, most_short_fields}
@@ -37,9 +37,6 @@ module _ (report : Report) (short : IsShort (told.Report report)) (few : length 
 abbrev next : DrivenState → Option Letter
 next flow = next_of (flow_by flow) flow.case.lag (world_by flow)
 
-pub way-begins : (given : Given) (flow : DrivenState) → IsOnWay given flow flow
-way-begins given flow = record { most = left_of flow; enough = omega arith; same = refl }
-
 module _ (given : Given) (first now : DrivenState) where
   on-from : (letter : Letter) (later : DrivenState) → letter ≢ T → next now ≡ Some letter → later ≡ after_one given now letter → left_of later < left_of now
       → (most : ℕ) → left_of now ≤ most → run_for most given now ≡ run_on given first → IsOnWay given first later
@@ -75,10 +72,3 @@ module _ (given : Given) (first now : DrivenState) where
   pub way-at-ticket : (later : DrivenState) → next now ≡ Some T → later ≡ after_one given now T → left_of later < left_of now
       → IsOnWay given first now → later ≡ run_on given first
   way-at-ticket later is made fewer on = ends-at later is made fewer on.most on.enough on.same
-
-  ends-still : next now ≡ None → (most : ℕ) → run_for most given now ≡ run_on given first → now ≡ run_on given first
-  ends-still is zero same = same
-  ends-still is (suc most) same = sym (ap (λ (l : Option Letter). then_on l (after_one given now) (run_for most given) now) is) ∙ same
-
-  pub way-at-end : next now ≡ None → IsOnWay given first now → now ≡ run_on given first
-  way-at-end is on = ends-still is on.most on.same

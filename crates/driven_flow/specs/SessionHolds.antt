@@ -10,10 +10,6 @@ abbrev pub HasPrograms : Codes → Option DrivenState → Type 0
 HasPrograms programs None = Unit {0}
 HasPrograms programs (Some flow) = flow.programs ≡ programs
 
--- the flow's programs are the session's
-abbrev pub IsSession : SessionState → Type 0
-IsSession s = HasPrograms s.programs s.flow
-
 -- the frame's program is known, its values are good for it, and where no flow has begun it is a change
 pub record IsAccepted (s : SessionState) (given : Given) : Type 0 where
   pub known : is_known_for s.programs given.program ≡ true
