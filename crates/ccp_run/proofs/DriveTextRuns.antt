@@ -129,7 +129,6 @@ module _ (text : DriveText) (wire : Bool) where
             record { taken = f.bytes; takes = f.taken; within = omega (arith, few, ap length f.parts, length-append before f.bytes) }
 
     module _ (h : IsHeardOut before opened.place (opening (codes_of opened.programs) opened.cases) session source sink (Ok tt)) where
-
       -- the flows have the programs, and are no more than the cases
       pub flows-few : length opened.cases ≤ most_cases → length session.ended ≤ most_cases
       flows-few few =
