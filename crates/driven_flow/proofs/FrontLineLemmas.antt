@@ -92,7 +92,7 @@ to-feed line (byte ∷ rest) more (suc at) within before is b sep =
     other_than true differs = absurd (differs refl)
     other_than false differs = refl
 
--- another line goes on
+-- a whole line other than `---` belongs to the text
 pub goes-on : (line text : List ℕ) (at : ℕ) → at < length text → ((k : ℕ) → 0 ≤ k → k < at → eqb (slice_index text k) 10 ≢ true) → eqb (slice_index text at) 10 ≡ true
     → is_separator (line ++ take at text) ≡ false → GoesOn line text (suc at) false
 goes-on line text at within before is sep = record {
@@ -103,7 +103,7 @@ goes-on line text at within before is sep = record {
   goes = λ more. to-feed line text more at within before is false sep;
 }
 
--- a part of another line goes on within it
+-- so does a part of such a line
 pub goes-within : (line part : List ℕ) → first_of LineFeed part ≡ part → IsOther (line ++ part) → GoesOn line part (length part) true
 goes-within line part free other = record {
   whole = [];

@@ -14,7 +14,7 @@ use Rattle.driven_flow.proofs.FrontLineLemmas.{Parted, front-twice, longer-text}
 rose-late : (before middle now : ℕ) → before ≤ middle → Rose middle now → middle ≤ now → Rose before now
 rose-late before middle now first rose grown = search rules
 
--- bytes that go on are moved to the text
+-- bytes that belong to the text are moved there
 pub reading-moves : (source source' : Known) (text rest text' rest' : List ℕ) (inside inside' : Bool) (count : ℕ)
     (r : IsReading source source' text rest inside) → GoesOn r.line rest count inside' → text' ≡ text ++ take count rest → rest' ≡ drop count rest
     → IsReading source source' text' rest' inside'
@@ -147,7 +147,7 @@ reading-fails source source' source'' before middle now text rest rest' inside r
     }
     fails NoMemory none = absurd none
 
--- the text is too long with what goes on, or memory ran out
+-- with the next bytes the text is too long, or memory ran out
 pub reading-stops : (source source' : Known) (before now : ℕ) (text rest text' rest' : List ℕ) (inside inside' : Bool) (count : ℕ) (r : IsReading source source' text rest inside) → GoesOn r.line rest count inside'
     → count ≤ length rest → length text ≤ most_input_bytes → length rest ≤ most_frame_bytes → (fault : FrontFault) → IsMoved count text rest text' rest' (Err fault) → IsFrontFault (stream source source' before now) fault
 reading-stops source source' before now text rest text' rest' inside inside' count r goes_on fits within few = stops

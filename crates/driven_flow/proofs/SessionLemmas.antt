@@ -1,4 +1,4 @@
--- A session's messages have frames, and a flow that goes on comes to its next ticket or to its end.
+-- Each message of a session has a frame, and a flow that continues reaches its next ticket or its end.
 use Rattle.std.specs.Prelude.{◌≡◌, ◌≢◌, ℕ, zero, suc, ◌+◌, ◌*◌, ◌<◌, ◌≤◌, nat_lt, if◌then◌else◌, Bool, true, false, Option, Some, length, refl}
 use Rattle.std.proofs.Common.{arith, ap, sym, ◌∙◌, subst}
 use Rattle.std.proofs.lemmas.Bool.Decides.{nat_tests}
@@ -32,7 +32,7 @@ module _ (report : Report) (short : IsShort (told.Report report)) (few : length 
   pub report-framed : (version : Version) → version ≡ version_for (length report.fields) → HasShortFrame (Some (Measure report, version))
   report-framed version is = subst (λ (v : Version). HasShortFrame (Some (Measure report, v))) (sym is) (framed (nat_lt most_short_fields (length report.fields)) refl)
 
--- ---- a flow goes on
+-- ---- a flow continues
 
 abbrev next : DrivenState → Option Letter
 next flow = next_of (flow_by flow) flow.case.lag (world_by flow)

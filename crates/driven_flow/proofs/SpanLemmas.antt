@@ -1,4 +1,4 @@
--- What a flow tells counts no more acknowledgements than the flow has.
+-- A flow's report counts no more acknowledgements than the flow has.
 use Rattle.std.specs.Prelude.{◌≡◌, ℕ, Bool, ◌+◌, ◌≤◌, IfSome, Option, Some, None, option_map, List, [], ◌∷◌, ◌++◌, length, slice_get, refl}
 use Rattle.std.specs.List.{AllByRecursion}
 use Rattle.std.proofs.Common.{arith, sym, subst, length-append}
@@ -63,7 +63,7 @@ reports-none : (n : ℕ) (reports : List Report) → AllByRecursion (ReportWithi
 reports-none n [] all = tt
 reports-none n (first ∷ rest) all = (all.0, reports-none n rest all.1)
 
--- what is told of `n` acknowledgements, where the present epoch's unreported span begins at `first`
+-- a report or notice over `n` acknowledgements, where the present epoch's unreported span begins at `first`
 record Within {X : Type 0} (n count first : ℕ) (waiting : List Report) (untold : Option (Failure X)) (out : Option (Taken X)) : Type 0 where
   counted : count ≡ n
   span : first ≤ n
@@ -230,7 +230,7 @@ module _ {X : Type 0} (flow : Flow X) where
   within-word giving answers (letter ∷ rest) w is =
       within-word giving answers rest (after_letter flow giving answers w letter) (within-letter giving answers letter w is)
 
-  -- ---- what is told
+  -- ---- reports and notices
 
   told-content : (n : ℕ) (content : Content X) → n ≤ most_acks → ContentWithin n content → IsShort (told_as flow content)
   told-content n (of_report report) few within =
@@ -247,7 +247,7 @@ module _ {X : Type 0} (flow : Flow X) where
 within-begun : (d : DrivenState) → IsWithin (flow_by d) (begun (flow_by d) d.case.link.mss d.program d.values)
 within-begun d = record { counted = refl; span = omega arith; waits = tt; notice = tt; ticket = tt }
 
--- what the ticket that is out tells, if the flow has at most the acknowledgements that flows have
+-- the report or notice of the open ticket, if the flow has at most `most_acks` acknowledgements
 pub told-short : (d : DrivenState) → length (world_by d).acks ≤ most_acks → IfSome (told_out (flow_by d) (world_by d)) IsShort
 told-short d few =
     let flow = flow_by d in

@@ -8,7 +8,7 @@ use Rattle.feed_core.specs.Feed.{Answer}
 use Rattle.feed_core.specs.FeedBytes.{AnswerRule, frames_from}
 use Rattle.driven_flow.specs.Session.{SessionState, waits, hear}
 
--- each Update and Change is refused in its own version, since no flow waits; every other message is passed over
+-- each Update and Change is refused in its own version, since no flow waits; every other message is ignored
 abbrev pub refused_alone : Message → Version → Answer
 refused_alone (Update flow values) version = Some (Refused flow NoFlow 0, version)
 refused_alone (Change flow program values) version = Some (Refused flow NoFlow 0, version)

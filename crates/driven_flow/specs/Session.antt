@@ -109,7 +109,7 @@ refusal s flow given =
     then values_refusal s.programs given.values (program_meant s.programs (running s) given.program)
     else Some (refused NoFlow 0)
 
--- ---- a flow goes on
+-- ---- a flow continues
 
 -- the flow after one more letter; where that is C, this is the answer that is applied
 abbrev pub after_one : Given → DrivenState → Letter → DrivenState
@@ -117,7 +117,7 @@ after_one given flow A = record flow { word = flow.word ++ A ∷ [] }
 after_one given flow T = record flow { word = flow.word ++ T ∷ [] }
 after_one given flow C = record flow { answers = flow.answers ++ given ∷ []; word = flow.word ++ C ∷ [] }
 
--- after the next letter of its campaign word the flow goes on, if that isn't T
+-- after the next letter of its campaign word the flow continues, unless that letter is T
 abbrev pub then_on : Option Letter → (Letter → DrivenState) → (DrivenState → DrivenState) → DrivenState → DrivenState
 then_on None after on flow = flow
 then_on (Some A) after on flow = on (after A)
@@ -168,11 +168,11 @@ stopped_by None s = (created s.left, with_ended s.flow s)
 abbrev pub stopped : SessionState → Answer × SessionState
 stopped s = stopped_by (reported s.flow) s
 
--- the flow goes on with this answer
+-- the flow continues with this answer
 abbrev pub gone_on : SessionState → Given → SessionState
 gone_on s given = record s { flow = option_map (run_on given) s.flow }
 
--- what is accepted begins a flow, or answers a flow's ticket, and that flow goes on
+-- an accepted message begins a flow or answers a flow's ticket, and that flow continues
 abbrev pub accepted : SessionState → Given → Answer × SessionState
 accepted s given = stopped (gone_on (turned s given) given)
 
@@ -184,7 +184,7 @@ heard_as None s version flow given = accepted s given
 abbrev pub heard : SessionState → Version → ℕ → Given → Answer × SessionState
 heard s version flow given = heard_as (refusal s flow given) s version flow given
 
--- the answer to a message, and the session after it; all but an Update and a Change are passed over
+-- the answer to a message, and the session after it; only an Update or a Change is not ignored
 abbrev pub hear : SessionState → Message → Version → Answer × SessionState
 hear s (Update flow values) version = heard s version flow (record { program = None; values = values })
 hear s (Change flow program values) version = heard s version flow (record { program = Some program; values = values })

@@ -29,7 +29,7 @@ MayAnswerIn (Some flow) given = MayAnswer flow given
 abbrev pub CanGoOn : SessionState → Given → Type 0
 CanGoOn s given = MayAnswerIn s.flow given
 
--- from the flow's state now it comes to where it comes to from its first state, within `most` letters more
+-- the flow's state now has the same outcome as its first state, within `most` more letters
 pub record IsOnWay (given : Given) (first now : DrivenState) : Type 0 where
   pub most : ℕ
   pub enough : left_of now ≤ most

@@ -21,7 +21,7 @@ fn version_for(fields: u32) -> Version
     }
 }
 
-/// What a ticket tells, as a message in the version that it is written in.
+/// A ticket's report or notice as a message, in the version that it is written in.
 pub(crate) fn message_of(told: Told) -> (Message, Version)
     requires { IsShort told }
     ensures message { result ≡ message_of told }

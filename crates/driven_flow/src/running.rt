@@ -1,4 +1,4 @@
-//! A driven flow goes on with an answer, to its next ticket or to its end.
+//! A driven flow continues with an answer, to its next ticket or to its end.
 ghost use Rattle.std.specs.Prelude.{◌≡◌, ◌≢◌, ◌<◌, ◌++◌, ◌∷◌, [], OnOk};
 ghost use Rattle.driven_flow.specs.Driven.{MayMake, left_of};
 ghost use Rattle.driven_flow.specs.Session.{after_one, run_on};

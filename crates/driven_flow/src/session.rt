@@ -138,9 +138,9 @@ impl<'p> Session<'p> {
         })
     }
 
-    /// The answer to a message, if it has one. An Update or a Change that is not refused is applied, and the flow goes on
-    /// to its next ticket or to its end; every other message is passed over. If memory runs out, the flow may be part of
-    /// the way or dropped.
+    /// The answer to a message, if it has one. An Update or a Change that is not refused is applied, and the flow
+    /// continues to its next ticket or to its end; every other message is ignored. If memory runs out, the flow may be
+    /// between two tickets or dropped.
     pub fn answer(
         &mut self,
         alloc: Global,
@@ -238,7 +238,7 @@ impl<'p> Session<'p> {
         Ok(())
     }
 
-    /// Lets the flow go on with this answer, to its next ticket or to its end.
+    /// Continues the flow with this answer, to its next ticket or to its end.
     fn go_on(&mut self, alloc: Global, answer: &Answer) -> Result<(), NoMemory>
         requires { CanGoOn self.old answer.now }
         ensures gone { OnOk result (self.new ≡ gone_on self.old answer.now) }
