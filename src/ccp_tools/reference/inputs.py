@@ -371,7 +371,7 @@ def scenario(draw: Random, traits: Traits, wanted: Sequence[str] = (), most_acks
 
 class Frames:
     """Makes what an agent outside may send to the flows of a scenario. `all()` gives the bytes: most are answers that
-    move the flows on, some are frames that are refused or passed over, and the end may be cut or bad."""
+    move the flows on, some are frames that are refused or ignored, and the end may be cut or bad."""
 
     def __init__(self, draw: Random, scenario: Dict[str, Any], traits: Traits) -> None:
         self.draw = draw
