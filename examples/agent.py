@@ -17,8 +17,8 @@ own agent in the place of Reno: it needs `begin`, `report` and `fault`, and what
 Datapath. docs/frames.md has the bytes of the frames. The script needs nothing beside it, so a copy works anywhere; its
 Reno is there to be changed, and the model that tests compare with `ccp` is in ccp_tools.reference.
 
-The program is the one of --ccp, else of $CCP_PROGRAM, else the one that is built in the checkout of this script:
-crates/ccp/out/ccp, or crates/ccp/out/checked/ccp, which isn't proved.
+The program is the one of --ccp, else of $CCP_PROGRAM, else what `./ccp` of this script's checkout runs, else the `ccp` on
+the PATH.
 Exit status: 0; 1 where a file or the program is wrong; 2 where the arguments are."""
 import argparse
 import os
@@ -26,8 +26,7 @@ import struct
 import subprocess
 import sys
 
-OUT = os.path.join(os.path.dirname(os.path.dirname(os.path.abspath(__file__))), "crates", "ccp", "out")
-BUILT = [os.path.join(OUT, "ccp"), os.path.join(OUT, "checked", "ccp")]
+LAUNCHER = os.path.join(os.path.dirname(os.path.dirname(os.path.abspath(__file__))), "ccp")
 # the values of an acknowledgement, in their order
 PRIMITIVES = (
     "bytes_acked packets_acked bytes_misordered packets_misordered ecn_bytes ecn_packets lost_pkts_sample now"
@@ -216,8 +215,8 @@ def read_acks(lines, flow):
 
 def main():
     words = argparse.ArgumentParser(description=__doc__, formatter_class=argparse.RawDescriptionHelpFormatter)
-    built = next((path for path in BUILT if os.path.exists(path)), BUILT[0])
-    words.add_argument("--ccp", default=os.environ.get("CCP_PROGRAM") or built, metavar="PATH")
+    found = LAUNCHER if os.path.isfile(LAUNCHER) else "ccp"
+    words.add_argument("--ccp", default=os.environ.get("CCP_PROGRAM") or found, metavar="PATH")
     words.add_argument("--program", help=argparse.SUPPRESS)
     words.add_argument("--flow", type=int, default=0)
     words.add_argument("--mss", type=int, default=1448)

@@ -1,6 +1,7 @@
 """Whatever a command is given, it ends with a line for its user, and never with a traceback."""
 from __future__ import annotations
 
+import json
 import os
 import shutil
 import subprocess
@@ -9,6 +10,7 @@ from pathlib import Path
 from typing import Dict, List
 
 import pytest
+from inside import run_inside
 from support import EXAMPLES, REPOSITORY, ccp, command
 
 from ccp_tools.cli import main
@@ -201,3 +203,31 @@ def test_interpreters_that_the_package_is_for() -> None:
                 assert ran.returncode == 0, (python, command_.name, ran.stderr)
         tried += 1
     assert tried
+
+
+# members of a scenario that `ccp` refuses, each with the path that is named
+WRONG_MEMBERS = [
+    ('"cases": [', '"others": [', "cases"),
+    ('{"name": "a"', '3, {"name": "a"', "cases[0]"),
+    ('"name": "a"', '"name": 7', "cases[0].name"),
+    ('"mss": 1448', '"mss": "x"', "cases[0].mss"),
+    ('"mss": 1448', '"mss": 1%s' % ("0" * 40), "cases[0].mss"),
+    ('"delay_us"', '"delay"', "cases[0].delay_us"),
+    ('"agent": "reno"', '"agent": "reno", "sender": 5', "cases[0].sender"),
+    ('"10\\n"', "[10]", "traces"),
+]
+
+
+@pytest.mark.parametrize("old, new, member", WRONG_MEMBERS)
+def test_texts_beside_a_scenario_that_ccp_refuses(tmp_path: Path, old: str, new: str, member: str) -> None:
+    """Figures and plots name the member that is wrong."""
+    case = dict(name="a", trace="t", mss=1448, queue=10, delay_us=20000, timeout_us=1000000, acks=9, agent="reno")
+    right = json.dumps({"version": 1, "traces": {"t": "10\n"}, "cases": [case]})
+    assert old in right
+    scenario, timeline = tmp_path / "scenario.json", tmp_path / "timeline.txt"
+    timeline.write_text(ccp("timeline", given=right).output)
+    scenario.write_text(right.replace(old, new))
+    for words in (["metrics", scenario, timeline], ["plot", "flows", "--scenario", scenario, timeline, "x.svg"]):
+        made = run_inside(*words)
+        assert made.status == 1 and made.output == "", made
+        assert ": no scenario of ccp: %s is missing or of another kind\n" % member in made.errors

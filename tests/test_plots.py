@@ -84,7 +84,9 @@ BEGINNINGS = {".svg": b"<?xml", ".png": b"\x89PNG", ".pdf": b"%PDF", ".eps": b"%
 
 @pytest.fixture
 def files(tmp_path: Path):
+    part = {"groups": [{"by": {"sender": "a"}, "n": 1, "metrics": {"power": {"mean": 1}}}]}
     made = {"scenario": json.dumps(SCENARIO), "flows": FLOWS, "acks": ACKS, "metrics": json.dumps(METRICS)}
+    made.update(words="case,sender,power\na,b,high\n", part=json.dumps(part))
     for name, text in made.items():
         (tmp_path / name).write_text(text)
     return {**{name: str(tmp_path / name) for name in made}, "table": str(EXAMPLES / "campaign.out")}
@@ -202,6 +204,9 @@ def test_a_line_breaks_where_reports_were_held_and_in_a_gap():
         ("bars --size 9 {metrics} plot.svg", 2, "WxH in points"),
         ("bars --size 90x20 {metrics} plot.svg", 1, "too small"),
         ("bars {acks} plot.svg", 1, "isn't what `ccp metrics` writes"),
+        ("bars {scenario} plot.svg", 1, "it has no column case"),
+        ("bars {words} plot.svg", 1, "the column power has a value that is no number"),
+        ("bars {part} plot.svg", 1, "it has no column power_sd"),
         ("bars /nowhere plot.svg", 1, "/nowhere: No such file"),
         ("flows {acks} plot.svg", 1, "no text of `timeline`"),
         ("flows --flows 7 {flows} plot.svg", 1, "no flow 7"),

@@ -4,20 +4,23 @@ from __future__ import annotations
 
 import hashlib
 import os
+import shlex
 import shutil
 import subprocess
+import sys
 import tempfile
 import time
 from pathlib import Path
 from typing import Dict, Iterator, List, Tuple
 
 import pytest
-from support import EXAMPLES, REPOSITORY, Ran, script
+from support import EXAMPLES, REPOSITORY, Ran, needs, script
 
 # a program that says which one it is, and refuses missing words
 PROGRAM = "if [ $# = 0 ]; then echo 'ccp: words refused' >&2; exit 2; fi\necho \"$0 $*\"\n"
 # the header of a program for a processor that this machine hasn't
 OTHER_PROCESSOR = b"\x7fELF\x02\x01\x01" + bytes(9) + b"\x02\x00\xb7\x00\x01\x00\x00\x00" + bytes(40)
+PYTHON = shlex.quote(sys.executable)
 PARTS = ["ccp", "VERSION", "HANDLES", "tools/install-ccp", "tools/completions", "docs/ccp.1"]
 
 
@@ -383,8 +386,23 @@ def test_commands_of_readme(clone: Path, line: str) -> None:
 def lines_of_examples() -> List[str]:
     """A line for each example: an input with the mode that reads it."""
     modes = {"campaign.json": "campaign", "shared.json": "shared", "delay-shared.json": "shared"}
-    modes.update({"live.json": "timeline", "rollout.json": "rollout"})
+    modes.update({"live.json": "timeline", "rollout.json": "rollout", "convergence.json": "shared"})
+    modes.update({"drive.json": "campaign", "driven.drive": "drive-table"})
     lines = ["./ccp %s examples/%s" % (mode, name) for name, mode in modes.items()]
+    lines.append("./ccp acks examples/live.json | examples/agent.py -")
+    for mode, first in (("feed", "echo -n"), ("drive", "cat examples/driven.json; echo ---")):
+        name = "feed" if mode == "feed" else "driven"
+        frames = "{ %s; grep -v '^#' examples/%s.hex | xxd -r -p; } | ./ccp %s | xxd -p" % (first, name, mode)
+        lines.append(
+            "diff <(%s) <(grep -v '^#' examples/%s-answers.hex | xxd -r -p | xxd -p) && echo same" % (frames, name)
+        )
+    for path in sorted((EXAMPLES / "traces").glob("*.trace")):
+        lines.append("./ccp trace info %s 2>&1" % path.relative_to(REPOSITORY))
+    for name in ("aimd", "copa", "bbr"):
+        lines.append("PYTHONPATH=src %s -m ccp_tools.drive examples/agents/%s.py examples/drive.json" % (PYTHON, name))
+    build = "cc -O2 -o $room/aimd examples/agents/aimd.c && mkfifo $room/frames"
+    run = "(cat examples/drive.json; echo ---; $room/aimd < $room/frames) | ./ccp drive | tee $room/frames | xxd -p"
+    lines.append("room=$(mktemp -d) && %s && %s; rm -r $room" % (build, run))
     for path in sorted(EXAMPLES.rglob("*.portus")):
         lines.append("./ccp check %s" % path.relative_to(REPOSITORY))
     for path in sorted(EXAMPLES.glob("*.ccp")):
@@ -395,7 +413,9 @@ def lines_of_examples() -> List[str]:
     return lines
 
 
-@pytest.mark.parametrize("line", lines_of_examples())
+@pytest.mark.parametrize(
+    "line", [pytest.param(line, marks=needs("cc")) if "cc -O2" in line else line for line in lines_of_examples()]
+)
 def test_each_example(clone: Path, line: str) -> None:
     ran = as_new_user(clone, line)
     assert ran.output and ran.status == 0 and ran.errors == ""
@@ -404,18 +424,122 @@ def test_each_example(clone: Path, line: str) -> None:
         assert ran.output == expected.read_text(encoding="utf-8")
 
 
+# ---- a release and its tag
+
+
+class Maker:
+    """A clone of this checkout with a program that ./test has passed, and a toolchain of two scripts."""
+
+    def __init__(self, room: Path, program: Path | None = None) -> None:
+        self.room, self.top = room, room / "ccp"
+        subprocess.run(["git", "clone", "--quiet", str(REPOSITORY), str(self.top)], check=True)
+        for name, value in (("user.name", "A Maintainer"), ("user.email", "maintainer@example.org")):
+            self.git("config", name, value)
+        shutil.copy(REPOSITORY / "tools/release", self.top / "tools/release")
+        if self.git("status", "--porcelain"):
+            self.git("commit", "--quiet", "--all", "--message", "This checkout's script")
+        self.version = (self.top / "VERSION").read_text(encoding="utf-8").strip()
+        script(room, "rt", "echo %s/doc" % room)
+        (room / "toolchain/bin").mkdir(parents=True)
+        script(room / "toolchain/bin", "clang", "echo 'clang version 1'")
+        self.pass_program(program or script(room, "stub", PROGRAM))
+
+    def git(self, *words: str) -> str:
+        return subprocess.check_output(["git", "-C", str(self.top), *words], text=True).strip()
+
+    def pass_program(self, program: Path) -> None:
+        """What ./test leaves: a program, and beside it what it passed."""
+        built = self.top / "crates/ccp/out"
+        built.mkdir(parents=True)
+        shutil.copy(program, built / "ccp")
+        sources = subprocess.check_output([str(self.top / "tools/launcher/source-sum")], text=True).strip()
+        lines = ("sources: " + sources, "program: " + digest(built / "ccp"), "toolchain: stub-kit 1", "gate: 1 passed")
+        (built / "passed").write_text("\n".join(lines) + "\n", encoding="utf-8")
+
+    def run(self, *words: str) -> Ran:
+        path = os.pathsep.join([str(self.room), os.environ["PATH"], "/usr/bin", "/bin"])
+        done = subprocess.run(
+            [str(self.top / "tools/release"), self.version, *words],
+            stdout=subprocess.PIPE,
+            stderr=subprocess.PIPE,
+            text=True,
+            # as little work as can be for the files that nobody keeps
+            env={**os.environ, "PATH": path, "XZ_DEFAULTS": "-0", "DPKG_DEB_COMPRESSOR_LEVEL": "1"},
+        )
+        return Ran(done.stdout, done.stderr, done.returncode)
+
+    def state(self) -> str:
+        """The commits and tags, and what has changed since the last commit."""
+        shown = self.git("log", "--all", "--format=%H %D"), self.git("status", "--porcelain", "--ignored", "dist")
+        return "\n".join([*shown, digest(self.top / "release/ccp")])
+
+
+@pytest.mark.parametrize("name", ["release", "install", "install-ccp", "completions"])
+def test_the_help_of_a_script_is_its_header(name: str) -> None:
+    path = REPOSITORY / "tools" / name
+    lines = path.read_text(encoding="utf-8").splitlines()[1:]
+    end = next(at for at, line in enumerate(lines) if not line.startswith("#"))
+    ran = subprocess.run([str(path), "--help"], stdout=subprocess.PIPE, text=True, check=True)
+    assert ran.stdout.splitlines() == [line[2:] for line in lines[:end]]
+
+
+@needs("git", "dpkg-deb", "xz")
+def test_a_release_has_a_tag(tmp_path: Path) -> None:
+    maker = Maker(tmp_path)
+    tag = "v" + maker.version
+    ran = maker.run("--no-tag")
+    assert ran.status == 0 and "no tag is made: --no-tag" in ran.output and not maker.git("tag"), ran
+    maker.git("checkout", "--quiet", "--", "release")
+
+    (maker.top / "VERSION").write_text(maker.version + "\n\n", encoding="utf-8")
+    ran = maker.run()
+    assert ran.status == 0 and "no tag is made: the working tree has other changes, as VERSION" in ran.output, ran
+    assert not maker.git("tag")
+    maker.git("checkout", "--quiet", "--", ".")
+
+    ran = maker.run()
+    assert ran.status == 0 and "the tag %s is made\n" % tag in ran.output, ran
+    assert maker.git("cat-file", "-t", tag) == "tag", "it is annotated"
+    assert maker.git("rev-parse", tag + "^{commit}") == maker.git("rev-parse", "HEAD")
+    assert maker.git("log", "-1", "--format=%s") == "Release " + maker.version and not maker.git(
+        "status", "--porcelain"
+    )
+    assert "sources: " in maker.git("show", tag + ":release/PROVENANCE")
+
+    ran = maker.run()
+    assert ran.status == 0 and "no tag is made: it is there" in ran.output, ran
+
+
+@needs("git", "dpkg-deb", "xz")
+def test_a_tag_that_is_elsewhere_is_an_error_before_anything_is_written(tmp_path: Path) -> None:
+    maker = Maker(tmp_path)
+    tag = "v" + maker.version
+    maker.git("tag", "--annotate", tag, "--message", "an earlier one")
+    before = maker.state()
+    ran = maker.run()
+    assert ran.status == 1 and "the tag %s is at this commit, whose release/ has another program" % tag in ran.errors
+    assert ran.errors.count("\n") == 1 and "--no-tag" in ran.errors and maker.state() == before
+
+    maker.git("commit", "--quiet", "--allow-empty", "--message", "A later commit")
+    before = maker.state()
+    ran = maker.run()
+    assert ran.status == 1 and "the tag %s is at another commit, " % tag in ran.errors
+    assert ran.errors.count("\n") == 1 and "--no-tag" in ran.errors and maker.state() == before
+    assert maker.run("--no-tag").status == 0
+
+
 # ---- the packages in an empty Debian
 
 DEBIAN = os.environ.get("CCP_DEBIAN", "")
+# the seconds for all that debootstrap fetches; a mirror that is slower is as good as none
+FETCHED_S = 300
 
 
 class Debian:
-    """An empty Debian of debootstrap in the folder that CCP_DEBIAN names, and the packages that tools/release has made
-    in dist/."""
+    """An empty Debian in a folder, and packages that tools/release has made in another one."""
 
-    def __init__(self) -> None:
-        self.top = Path(DEBIAN)
-        self.packages = {path.name.partition("_")[0]: path for path in (REPOSITORY / "dist").glob("ccp*.deb")}
+    def __init__(self, top: Path, made: Path) -> None:
+        self.top, self.packages = top, {path.name.partition("_")[0]: path for path in made.glob("ccp*.deb")}
 
     def run(self, line: str) -> Ran:
         """Runs a line of sh in it."""
@@ -441,15 +565,39 @@ class Debian:
 
 
 @pytest.fixture(scope="module")
-def debian() -> Iterator[Debian]:
-    at = Debian()
+def debian(clone: Path, tmp_path_factory: pytest.TempPathFactory) -> Iterator[Debian]:
+    """The Debian that CCP_DEBIAN names with the packages in dist/, else one that debootstrap makes with the packages of
+    the program in release/."""
+    if os.geteuid() != 0:
+        pytest.skip("only root may make a Debian and enter it")
+    if DEBIAN:
+        at = Debian(Path(DEBIAN), REPOSITORY / "dist")
+    else:
+        room = tmp_path_factory.mktemp("debian")
+        top = made_by_debootstrap(room / "root")
+        ran = Maker(room, clone / "release" / "ccp").run("--no-tag")
+        assert ran.status == 0, ran
+        at = Debian(top, room / "ccp" / "dist")
     for name, path in at.packages.items():
         shutil.copy(path, at.top / "tmp" / (name + ".deb"))
     yield at
-    at.run("dpkg --purge ccp-tools ccp; rm -f /tmp/ccp.deb /tmp/ccp-tools.deb")
+    if DEBIAN:
+        at.run("dpkg --purge ccp-tools ccp; rm -f /tmp/ccp.deb /tmp/ccp-tools.deb")
+    else:
+        shutil.rmtree(at.top)
 
 
-in_debian = pytest.mark.skipif(not DEBIAN, reason="CCP_DEBIAN names no folder of debootstrap")
+def made_by_debootstrap(top: Path) -> Path:
+    """An empty Debian in a new folder. Without a mirror within reach there is none, and no fault of the packages."""
+    # `timeout` ends also what debootstrap has begun
+    words = ["timeout", "--kill-after=10", str(FETCHED_S), "debootstrap", "--variant=minbase", "bookworm", str(top)]
+    done = subprocess.run(words, stdout=subprocess.PIPE, text=True)
+    if done.returncode:
+        pytest.skip("debootstrap makes no Debian here: %s" % "".join(done.stdout.splitlines()[-1:]))
+    return top
+
+
+in_debian = needs("debootstrap", "lintian", "man", "git", "dpkg-deb", "xz")
 
 
 @in_debian

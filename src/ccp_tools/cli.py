@@ -10,6 +10,7 @@ added here. Any CcpError that `run` raises is printed as one line, `ccp COMMAND:
 from __future__ import annotations
 
 import argparse
+import gc
 import os
 import stat
 import sys
@@ -128,7 +129,10 @@ def dispatch(words: List[str]) -> int:
         return 0
     if words[0] not in COMMANDS:
         raise UsageError("%s is no command: the commands are %s" % (words[0], ", ".join(COMMANDS)))
+    # what is imported stays, and to look for garbage in it meanwhile takes a tenth of the time
+    gc.disable()
     module = import_module("." + COMMANDS[words[0]].module, __package__)
+    gc.enable()
     parser = parser_of(words[0], module.__doc__ or "", module)
     try:
         arguments = parser.parse_args(words[1:])

@@ -53,7 +53,7 @@ from .arguments import add_ccp, list_of, warn, whole
 from .errors import BadText, CcpError, UsageError
 from .files import MOST_BYTES, checked_length, name_of, reason_of
 from .frames import AckFrame, Timeline, acks_in, joined, timeline_of
-from .scenario_files import read_scenario
+from .scenario_files import read_run_scenario
 from .shares import jain
 from .traces import Trace, trace_times
 
@@ -528,10 +528,13 @@ def spans_differ(frame: pd.DataFrame) -> bool:
 # ---- over cases
 
 
-def groups(frame: pd.DataFrame, by: Sequence[str], names: Sequence[str] = tuple(METRICS)) -> pd.DataFrame:
+def groups(
+    frame: pd.DataFrame, by: Sequence[str], names: Sequence[str] = tuple(METRICS), has_intervals: bool = True
+) -> pd.DataFrame:
     """The cases of `figures` with equal values in the columns `by`, a row a group: `n` is the number of its cases, and
     of each figure `NAME_n` the number of cases that have it, `NAME_mean`, `NAME_sd` their standard deviation (divisor
-    n - 1), and `NAME_ci95` half of the 95 % interval of the mean by Student's t. The order is that of the cases."""
+    n - 1), and with `has_intervals` `NAME_ci95`, half of the 95 % interval of the mean by Student's t. The order is
+    that of the cases."""
     values = frame[list(names)].astype("float64")
     grouped = values.groupby([frame[name] for name in by], sort=False, dropna=False)
     counts, means, deviations = grouped.count(), grouped.mean(), grouped.std()
@@ -539,7 +542,8 @@ def groups(frame: pd.DataFrame, by: Sequence[str], names: Sequence[str] = tuple(
     for name in names:
         count = counts[name].to_numpy()
         made[name + "_n"], made[name + "_mean"], made[name + "_sd"] = counts[name], means[name], deviations[name]
-        made[name + "_ci95"] = quantile_of_t(count - 1) * deviations[name] / np.sqrt(np.maximum(count, 1))
+        if has_intervals:
+            made[name + "_ci95"] = quantile_of_t(count - 1) * deviations[name] / np.sqrt(np.maximum(count, 1))
     return pd.DataFrame(made).reset_index()
 
 
@@ -600,15 +604,24 @@ def read_figures(path: str) -> Tuple[pd.DataFrame, bool]:
     text = read_text(path)
     try:
         if text.lstrip().startswith("{"):
-            return frame_of_json(json.loads(text))
-        frame = pd.read_csv(io.StringIO(text))
+            frame, is_grouped = frame_of_json(json.loads(text))
+        else:
+            frame = pd.read_csv(io.StringIO(text))
+            is_grouped = "n" in frame and any(str(name).endswith("_ci95") for name in frame)
     except pd.errors.ParserError:
         raise CcpError("%s: this isn't what `ccp metrics` writes: it is no JSON and no CSV" % name_of(path)) from None
-    except (ValueError, KeyError, TypeError, AttributeError) as error:
+    except (ValueError, KeyError, TypeError, AttributeError, OverflowError) as error:
         raise CcpError("%s: this isn't what `ccp metrics` writes: %s" % (name_of(path), error)) from None
-    is_grouped = "n" in frame and any(str(name).endswith("_ci95") for name in frame)
-    if not is_grouped and not {"trace", "sender"} & set(frame):
-        raise CcpError("%s: this isn't what `ccp metrics` writes: it has no column trace or sender" % name_of(path))
+    kinds = [name + kind for name in SHOWN if name + "_mean" in frame for kind in ("_sd", "_ci95")]
+    for name in kinds if is_grouped else ("case", "sender"):
+        if name not in frame:
+            raise CcpError("%s: this isn't what `ccp metrics` writes: it has no column %s" % (name_of(path), name))
+    for name in (name + kind for name in SHOWN for kind in ("", "_mean", "_sd", "_ci95")):
+        if name in frame:
+            try:
+                frame[name] = frame[name].astype(float)
+            except (ValueError, TypeError):
+                raise CcpError("%s: the column %s has a value that is no number" % (name_of(path), name)) from None
     return frame, is_grouped
 
 
@@ -816,7 +829,7 @@ def run(arguments: argparse.Namespace) -> int:
     window = Window(arguments.begin, arguments.until)
     if window.until_us is not None and window.until_us <= window.begin_us:
         raise UsageError("--until: a time after that of --from is expected")
-    scenario = read_scenario(arguments.scenario)
+    scenario = read_run_scenario(arguments.scenario)
     names = [*columns_of(scenario, arguments.scenario)[0], *(orders.COLUMNS if arguments.orders is not None else [])]
     check_columns("--by", arguments.by or [], names)
     known = METRICS if arguments.by else [*names, *METRICS, "doubts"]

@@ -1,5 +1,5 @@
 //! The desk of an agent worker: flows' numbers arrive over a channel, and each flow has its lock.
-ghost use Rattle.std.specs.Prelude.{◌≡◌, ℕ, ◌+◌, ◌<◌, ◌≤◌, Option, Some, None, option_map, [], ◌∷◌, length};
+ghost use Rattle.std.specs.Prelude.{◌≡◌, ℕ, ◌+◌, ◌<◌, ◌≤◌, Option, Some, None, [], ◌∷◌, length};
 ghost use Rattle.worker_desk.specs.Logs.{KnownLog, Logs};
 ghost use Rattle.agent_loop.specs.Answering.{HasSettled};
 ghost use Rattle.worker_desk.specs.declared.event.Event.TheVariants.{Passed, Locked, Unlocked, Received, Took, Settled};
@@ -8,9 +8,9 @@ use agent_core::{Answer, Ticket};
 use ccp_base::{Gate, Point};
 use crossbeam_channel::Receiver;
 use flow_core::Cell;
-use flow_table::{FlowTable, Held};
+use flow_table::FlowTable;
 use std::alloc::Global;
-use std::sync::Wait;
+use std::sync::{MutexGuard, Wait};
 use worker_desk::AgentDesk;
 
 /// The desk of an agent worker of a live run.
@@ -21,19 +21,21 @@ pub(crate) struct NudgedDesk<'a, R: Wait, G: Gate> {
     pub(crate) table: &'a FlowTable<Cell>,
     pub(crate) nudges: &'a Receiver<u32, Global>,
     pub(crate) gate: &'a G,
-    pub(crate) held: Option<Held<'a, Cell>>,
+    pub(crate) held: Option<MutexGuard<'a, Cell>>,
     /// How many numbers may still come; after the last one it waits forever.
     pub(crate) left: u64,
 }
 
 impl<'a, R: Wait, G: Gate> AgentDesk for NudgedDesk<'a, R, G> {
-    ghost use Rattle.std.specs.Prelude.{None, option_map, length};
-    ghost use Rattle.flow_table.specs.HeldFlows.{OfHeld};
+    ghost use Rattle.std.specs.Prelude.{◌≡◌, Some, None, length};
+    ghost use Rattle.flow_table.specs.HeldFlows.{number_held, OfHeld};
     ghost use Rattle.agent_loop.specs.Answering.{HasTaken, HasSettled};
+
+    type Guard = MutexGuard<'a, Cell>;
 
     ghost log = { λ d. None };
 
-    ghost held = { λ d. option_map (λ held. held.flow) d.held };
+    ghost held = { λ d. number_held (λ cell. cell.case.flow) d.held };
 
     ghost flows = { λ d. length d.table.now };
 
@@ -42,6 +44,10 @@ impl<'a, R: Wait, G: Gate> AgentDesk for NudgedDesk<'a, R, G> {
     ghost HasTaken = { λ old new taken. OfHeld (λ before after. HasTaken before after taken) old.held new.held };
 
     ghost HasSettled = { λ old new answer. OfHeld (λ before after. HasSettled before after answer) old.held new.held };
+
+    ghost HasKept = { λ old new. OfHeld (λ before after. after ≡ before) old.held new.held };
+
+    ghost HasReleased = { λ old guard. old.held ≡ Some guard };
 
     fn flow_count(&self) -> u32 {
         self.table.flows()
@@ -63,27 +69,28 @@ impl<'a, R: Wait, G: Gate> AgentDesk for NudgedDesk<'a, R, G> {
         self.held = Some(self.table.lock(self.rt, flow));
     }
 
-    fn unlock(&mut self, _flow: u32) {
-        self.held = None;
+    fn unlock(&mut self, _flow: u32) -> MutexGuard<'a, Cell> {
+        let Some(guard) = self.held.take() else {
+            unreachable!()
+        };
+        guard
     }
 
     fn take(&mut self, _flow: u32) -> Option<Ticket> {
-        let Some(held) = self.held.take() else {
+        let Some(mut guard) = self.held.take() else {
             unreachable!()
         };
-        let Held { flow, mut cell } = held;
-        let taken = cell.take(self.alloc);
-        self.held = Some(Held { flow, cell });
+        let taken = guard.take(self.alloc);
+        self.held = Some(guard);
         taken.ok()
     }
 
     fn settle(&mut self, _flow: u32, answer: Answer) {
-        let Some(held) = self.held.take() else {
+        let Some(mut guard) = self.held.take() else {
             unreachable!()
         };
-        let Held { flow, mut cell } = held;
-        settle_at(&mut cell, answer);
-        self.held = Some(Held { flow, cell });
+        settle_at(&mut guard, answer);
+        self.held = Some(guard);
     }
 
     fn pass(&mut self, worker: u32, point: Point, flow: u32) {
@@ -94,7 +101,8 @@ impl<'a, R: Wait, G: Gate> AgentDesk for NudgedDesk<'a, R, G> {
 /// Settles the answer if its ticket is out; else nothing changes.
 // for the prover: both outcomes meet in one clause over the flow, before it goes back to the desk
 fn settle_at(cell: &mut Cell, answer: Answer)
-    ensures { HasSettled cell.old cell.new answer }
+    ensures settled { HasSettled cell.old cell.new answer }
+    ensures case { cell.new.case ≡ cell.old.case }
 {
     match cell.settle(answer) {
         Ok(()) => {}

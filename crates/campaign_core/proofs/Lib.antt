@@ -4,3 +4,4 @@ pub mod PeakLemmas
 pub mod BoundLemmas
 pub mod SumLemmas
 pub mod SourceReadings
+pub mod ReportsMadeLemmas

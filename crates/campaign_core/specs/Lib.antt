@@ -2,3 +2,4 @@
 pub mod CampaignWord
 pub mod CampaignRow
 pub mod BareLetters
+pub mod ReportsMade

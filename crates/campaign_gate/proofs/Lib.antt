@@ -3,5 +3,5 @@ pub mod CaseRunLemmas
 pub mod LinkedLemmas
 pub mod ShareLemmas
 pub mod BookLemmas
-pub mod ReportsMadeLemmas
+pub mod RowReportsLemmas
 pub mod LiftedRowLemmas

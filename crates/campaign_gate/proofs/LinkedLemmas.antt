@@ -1,15 +1,17 @@
 -- A flow without its history and its link after one more letter.
-use Rattle.std.specs.Prelude.{◌≡◌, ℕ, ◌<◌, ◌≤◌, List, [], ◌∷◌, ◌++◌, length, refl}
+use Rattle.std.specs.Prelude.{◌≡◌, ℕ, ◌<◌, ◌≤◌, Bool, true, false, ◌||◌, List, [], ◌∷◌, ◌++◌, length, refl}
 use Rattle.std.proofs.Common.{ap, sym, ◌∙◌, subst, arith}
 use Rattle.std.proofs.lemmas.Bool.{ltb-true}
 use Rattle.ccp_base.specs.declared.ack.Ack.{Ack}
 use Rattle.ccp_base.specs.Limits.{most_acks}
 use Rattle.link_model.specs.Link.{run_of, ack_after}
-use Rattle.link_model.specs.Standing.{LinkState, Stands, IsAnswer, StandsOn, standing_of}
+use Rattle.link_model.specs.Standing.{LinkState, Stands, StandsOn, standing_of}
+use Rattle.link_model.specs.Rated.{rated, IsRatedAnswer}
 use Rattle.flow_core.specs.declared.case.Case.{Case}
 use Rattle.flow_core.specs.declared.letter.Letter.{Letter}
 use Rattle.flow_core.specs.declared.letter.Letter.TheVariants.{A, T, C}
 use Rattle.flow_core.specs.Readings.{over_codes}
+use Rattle.flow_core.specs.ReadsRates.{case_reads_rates}
 use Rattle.flow_core.specs.World.{World, after_take, after_answer}
 use Rattle.flow_core.specs.Cells.{CellState, flow_at, world_at, ack_at, with_letter}
 use Rattle.flow_core.specs.Summaries.{Summary, summary, step_ack, step_take, step_answer}
@@ -21,6 +23,8 @@ use Rattle.campaign_gate.specs.declared.linked.Linked.{Linked}
 use Rattle.campaign_gate.specs.declared.listed.Listed.{Listed}
 use Rattle.campaign_gate.specs.CaseRuns.{MayMake, Makes}
 use Rattle.campaign_gate.specs.LinkedFlows.{linked_at, listed_at}
+use Rattle.campaign_core.specs.declared.sums.Sums.{Sums}
+use Rattle.campaign_core.specs.CampaignRow.{sums_with}
 use Rattle.campaign_core.proofs.SumLemmas.{calls-run}
 use Rattle.campaign_gate.proofs.CaseRunLemmas.{world-longer}
 
@@ -42,6 +46,7 @@ stays cell letter next step same windows stepped =
     λ i. record {
       bare = record { case = cell.case; summary = summed i };
       link = record { case = link; standing = standing_of link (run_of link (given i)) };
+      reads_rates = case_reads_rates cell.case;
     }
 
 makes-by : (letter : Letter) (old new : Linked) (step : Case → Summary → Summary) → new ≡ with_summary old step
@@ -50,16 +55,16 @@ makes-by letter old new step is law cell at = is ∙ ap (λ (l : Linked). with_s
 
 -- a bare flow's step with the link as it is
 pub makes-T : (old : Linked) (bare : BareState) → bare ≡ record old.bare { summary = step_take old.bare.summary }
-    → Makes linked_at T old (record { bare = bare; link = old.link })
+    → Makes linked_at T old (record old { bare = bare })
 makes-T old bare stepped =
-    makes-by T old (record { bare = bare; link = old.link }) (λ case s. step_take s) (ap (λ (b : BareState). record old { bare = b }) stepped)
+    makes-by T old (record old { bare = bare }) (λ case s. step_take s) (ap (λ (b : BareState). record old { bare = b }) stepped)
     (λ cell. stays cell T (after_take (world_at cell)) (λ case s. step_take s) (world-longer cell T)
     (take-keeps (flow_at cell) (world_at cell)).windows (summary-take (flow_at cell) (world_at cell)))
 
 pub makes-C : (old : Linked) (bare : BareState) → bare ≡ record old.bare { summary = step_answer (over_codes old.bare.case) old.bare.summary }
-    → Makes linked_at C old (record { bare = bare; link = old.link })
+    → Makes linked_at C old (record old { bare = bare })
 makes-C old bare stepped =
-    makes-by C old (record { bare = bare; link = old.link }) (λ case s. step_answer (over_codes case) s) (ap (λ (b : BareState). record old { bare = b }) stepped)
+    makes-by C old (record old { bare = bare }) (λ case s. step_answer (over_codes case) s) (ap (λ (b : BareState). record old { bare = b }) stepped)
     (λ cell. stays cell C (after_answer (flow_at cell) (world_at cell)) (λ case s. step_answer (over_codes case) s) (world-longer cell C)
     (answer-keeps (flow_at cell) (world_at cell)).windows (summary-answer (flow_at cell) (world_at cell)))
 
@@ -77,7 +82,15 @@ few-calls linked may =
     ap (λ (l : Linked). l.link.standing.calls) may.after ∙ calls-run case.link w.windows in
     omega (arith, calls, length-world (flow_at cell) case.link cell.word, length-windows (flow_at cell) case.link cell.word, more, most)
 
-module _ (old : Linked) (window : ℕ) (ack : Ack) (is_window : window ≡ old.bare.summary.track.env.cwnd) (answer : IsAnswer old.link window ack) where
+-- what holds of the acknowledgement that a flow heard holds of the whole one, since rates are left out only if no
+-- program reads one
+heard-rated : (whole reads : Bool) (ack next : Ack) (P : Ack → Type 0) → ack ≡ rated (whole || reads) next → P ack
+    → ((other : Ack) → ack ≡ rated reads other → P other) → P next
+heard-rated true reads ack next P is heard unread = subst P is heard
+heard-rated false reads ack next P is heard unread = unread next is
+
+module _ (old : Linked) (whole : Bool) (window : ℕ) (ack : Ack) (is_window : window ≡ old.bare.summary.track.env.cwnd)
+    (answer : IsRatedAnswer (whole || old.reads_rates) old.link window ack) where
   window-at : (cell : CellState) → old ≡ linked_at cell → window ≡ (linked_at cell).bare.summary.track.env.cwnd
   window-at cell is = is_window ∙ ap (λ (l : Linked). l.bare.summary.track.env.cwnd) is
 
@@ -85,22 +98,34 @@ module _ (old : Linked) (window : ℕ) (ack : Ack) (is_window : window ≡ old.b
   link-at cell is = subst (λ (l : Linked). Stands l.link (world_at cell).windows) (sym is) refl
 
   -- the acknowledgement is the next one of the link
-  pub ack-is : (cell : CellState) → old ≡ linked_at cell → ack ≡ ack_at cell
+  pub ack-is : (cell : CellState) → old ≡ linked_at cell → ack ≡ rated (whole || case_reads_rates cell.case) (ack_at cell)
   ack-is cell is =
       answer (world_at cell).windows (link-at cell is)
-      ∙ (λ i. ack_after (is i).link.case (world_at cell).windows (window-at cell is i))
+      ∙ (λ i. rated (whole || (is i).reads_rates) (ack_after (is i).link.case (world_at cell).windows (window-at cell is i)))
+
+  abbrev stepped-by : BareState → Ack → Type 0
+  stepped-by bare other = bare ≡ record old.bare { summary = step_ack (over_codes old.bare.case) other old.bare.summary }
+
+  -- the flow makes the step of the whole acknowledgement
+  stepped-whole : (bare : BareState) (cell : CellState) → old ≡ linked_at cell → stepped-by bare ack
+      → ((other : Ack) → ack ≡ rated (case_reads_rates old.bare.case) other → stepped-by bare other) → stepped-by bare (ack_at cell)
+  stepped-whole bare cell is stepped unread =
+      let reads : case_reads_rates cell.case ≡ case_reads_rates old.bare.case = sym (ap (λ (l : Linked). case_reads_rates l.bare.case) is) in
+      let rates = ack-is cell is ∙ ap (λ (b : Bool). rated (whole || b) (ack_at cell)) reads in
+      heard-rated whole (case_reads_rates old.bare.case) ack (ack_at cell) (stepped-by bare) rates stepped unread
 
   pub makes-A : (bare : BareState) (link : LinkState) → StandsOn old.link window link → link.case ≡ old.link.case
-      → bare ≡ record old.bare { summary = step_ack (over_codes old.bare.case) ack old.bare.summary }
-      → Makes linked_at A old (record { bare = bare; link = link })
-  makes-A bare link stands same_link stepped cell is =
+      → stepped-by bare ack → ((other : Ack) → ack ≡ rated (case_reads_rates old.bare.case) other → stepped-by bare other)
+      → Makes linked_at A old (record old { bare = bare; link = link })
+  makes-A bare link stands same_link heard unread cell is =
       let w = world_at cell in
       let flow = flow_at cell in
       let next = world_at (with_letter A cell) in
+      let stepped = stepped-whole bare cell is heard unread in
       let case : bare.case ≡ cell.case = ap (λ (b : BareState). b.case) stepped ∙ ap (λ (l : Linked). l.bare.case) is in
       let summed : bare.summary ≡ summary flow next =
       ap (λ (b : BareState). b.summary) stepped
-      ∙ (λ i. step_ack (over_codes (is i).bare.case) (ack-is cell is i) (is i).bare.summary)
+      ∙ (λ i. step_ack (over_codes (is i).bare.case) (ack_at cell) (is i).bare.summary)
       ∙ sym (summary-ack flow (ack_at cell) w) ∙ ap (summary flow) (sym (world-longer cell A)) in
       let link_case : link.case ≡ cell.case.link = same_link ∙ ap (λ (l : Linked). l.link.case) is in
       let windows : w.windows ++ window ∷ [] ≡ next.windows =
@@ -110,7 +135,16 @@ module _ (old : Linked) (window : ℕ) (ack : Ack) (is_window : window ≡ old.b
       λ i. record {
         bare = record { case = case i; summary = summed i };
         link = record { case = link_case i; standing = standing i };
+        reads_rates = (is i).reads_rates;
       }
+
+-- the sums add up no rate
+sums-rated : (rates : Bool) (ack : Ack) (sums : Sums) → sums_with (rated rates ack) sums ≡ sums_with ack sums
+sums-rated true ack sums = refl
+sums-rated false ack sums = refl
+
+pub sums-heard : (rates : Bool) (ack next : Ack) (sums : Sums) → ack ≡ rated rates next → sums_with ack sums ≡ sums_with next sums
+sums-heard rates ack next sums is = ap (λ (a : Ack). sums_with a sums) is ∙ sums-rated rates next sums
 
 -- ---- with a list of the acknowledgements
 

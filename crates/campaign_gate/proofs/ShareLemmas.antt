@@ -1,9 +1,10 @@
 -- What the workers' shares have, side by side.
-use Rattle.std.specs.Prelude.{◌≡◌, ℕ, zero, suc, ◌+◌, ◌-◌, ◌<◌, ◌≤◌, Option, Some, None, option_map, unwrap_or, List, [], ◌∷◌, ◌++◌, map, drop, length, slice_get, refl}
+use Rattle.std.specs.Prelude.{◌≡◌, ℕ, zero, suc, ◌+◌, ◌-◌, ◌<◌, ◌≤◌, Option, Some, None, unwrap_or, List, [], ◌∷◌, ◌++◌, drop, length, slice_get, refl}
 use Rattle.std.proofs.Common.{arith, ap, sym, ◌∙◌, append_assoc, append-nil, length-append}
 use Rattle.std.proofs.lemmas.List.{drop-drop}
-use Rattle.std.proofs.lemmas.Option.{slice_get-map, slice_get_within}
-use Rattle.campaign_gate.specs.Shares.{every, shares_from, shares, front_of, turned}
+use Rattle.std.proofs.lemmas.Option.{slice_get_within}
+use Rattle.worker_desk.specs.EveryNth.{every}
+use Rattle.campaign_gate.specs.Shares.{shares_from, shares, front_of, turned}
 
 -- the item at a place, and those after it
 pub drop-next : {X : Type 0} (xs : List X) (n : ℕ) (x : X) → slice_get xs n ≡ Some x → drop n xs ≡ x ∷ drop (n + 1) xs
@@ -22,38 +23,6 @@ at-drop (x ∷ rest) (suc n) = at-drop rest n
 pub none-left : {X : Type 0} (xs : List X) → slice_get xs 0 ≡ None → xs ≡ []
 none-left [] none = refl
 none-left (x ∷ rest) none = absurd (let wrong : Some x ≡ None = none in (cc))
-
--- ---- one share
-
-every-drop : {X : Type 0} (step skip : ℕ) (xs : List X) → every step skip xs ≡ every step 0 (drop skip xs)
-every-drop step zero xs = refl
-every-drop step (suc skip) [] = refl
-every-drop step (suc skip) (x ∷ rest) = every-drop step skip rest
-
-every-next : {X : Type 0} (step number : ℕ) (xs : List X) (x : X) → 0 < step → slice_get xs number ≡ Some x
-    → every step 0 (drop number xs) ≡ x ∷ every step 0 (drop (number + step) xs)
-every-next step number xs x some at =
-    let far : (number + 1) + (step - 1) ≡ number + step = omega (arith, some) in
-    ap (every step 0) (drop-next xs number x at)
-    ∙ ap (λ (rest : List _). x ∷ rest)
-    (every-drop step (step - 1) (drop (number + 1) xs)
-    ∙ ap (every step 0) (drop-drop (step - 1) (number + 1) xs ∙ ap (λ (n : ℕ). drop n xs) far))
-
--- what is made of no case, and of one more
-pub share-begins : {X : Type 0} (step worker : ℕ) (made all : List X) → made ≡ [] → made ++ every step 0 (drop worker all) ≡ every step worker all
-share-begins step worker made all empty = ap (λ (xs : List _). xs ++ every step 0 (drop worker all)) empty ∙ sym (every-drop step worker all)
-
-pub share-goes-on : {A X : Type 0} (f : A → X) (step number : ℕ) (cases : List A) (case : A) (made next whole : List X) (one : X)
-    → 0 < step → slice_get cases number ≡ Some case → one ≡ f case → next ≡ made ++ one ∷ []
-    → made ++ every step 0 (drop number (map f cases)) ≡ whole
-    → next ++ every step 0 (drop (number + step) (map f cases)) ≡ whole
-share-goes-on f step number cases case made next whole one some at is put so_far =
-    let left = every step 0 (drop (number + step) (map f cases)) in
-    let here : slice_get (map f cases) number ≡ Some one =
-    slice_get-map f cases number ∙ ap (option_map f) at ∙ sym (ap Some is) in
-    ap (λ (xs : List _). xs ++ left) put ∙ append_assoc made (one ∷ []) left
-    ∙ ap (λ (xs : List _). made ++ xs) (sym (every-next step number (map f cases) one some here))
-    ∙ so_far
 
 -- ---- the shares side by side
 

@@ -1,11 +1,6 @@
 -- How workers share a list: each has every n-th item, and the shares of all workers side by side are the list.
-use Rattle.std.specs.Prelude.{ℕ, zero, suc, ◌-◌, ◌++◌, Option, Some, None, List, [], ◌∷◌}
-
--- the items at the places `skip`, `skip + step`, `skip + 2 * step` and so on
-abbrev pub every : {X : Type 0} → ℕ → ℕ → List X → List X
-every step skip [] = []
-every step zero (x ∷ rest) = x ∷ every step (step - 1) rest
-every step (suc skip) (x ∷ rest) = every step skip rest
+use Rattle.std.specs.Prelude.{ℕ, zero, suc, ◌++◌, Option, Some, None, List, [], ◌∷◌}
+use Rattle.worker_desk.specs.EveryNth.{every}
 
 -- the shares of `count` workers from `worker` on, of `workers` in all
 abbrev pub shares_from : {X : Type 0} → ℕ → ℕ → ℕ → List X → List (List X)

@@ -12,11 +12,10 @@ ghost use Rattle.campaign_gate.specs.CampaignBooks.{acks_of_case, IsCampaignBook
 ghost use Rattle.campaign_gate.specs.LiftedRow.{RowHoldsForSources};
 
 use crate::case_result::CaseResult;
-use crate::entered::Entered;
 use crate::queue::Queue;
 use crate::workers::make_by_workers;
 use campaign_core::{CaseAcks, Cases, Row, Rows};
-use ccp_base::{Acks, Gate, NoMemory, OpenGate, Sequence, Workers};
+use ccp_base::{Acks, Gate, NoMemory, Sequence, Workers};
 use flow_core::{Book, Case, Cell};
 use std::alloc::Global;
 use std::marker::Brand;
@@ -30,7 +29,7 @@ pub fn run_case(alloc: Global, case: Case) -> Result<Row, NoMemory>
     ensures complete { is_complete (over_codes case) (world (over_codes case) case.link (plan case)) ≡ true }
     ensures lifted { RowHoldsForSources case }
 {
-    Row::make(alloc, Entered::enter(&OpenGate, 0, 0, case))
+    Row::make(alloc, case)
 }
 
 /// The rows of at most 1,024 cases, in their order. They don't depend on `workers`. Worker `w` runs the cases `i` with

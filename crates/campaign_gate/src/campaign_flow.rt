@@ -74,7 +74,7 @@ impl CampaignFlow for Cell {
     fn take(&mut self, alloc: Global) -> Result<(), NoMemory> {
         match Cell::take(self, alloc) {
             Ok(_) => Ok(()),
-            Err(TakeFault::NoMemory) => Err(NoMemory),
+            Err(TakeFault::NoMemory(error)) => Err(error),
             // A ticket is legal here: none is out, and something is left to take.
             Err(TakeFault::NotYet) => unreachable!(),
             Err(TakeFault::Out(_)) => unreachable!(),

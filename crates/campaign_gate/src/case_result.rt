@@ -5,12 +5,11 @@ ghost use Rattle.campaign_core.specs.CampaignRow.{case_row};
 ghost use Rattle.campaign_gate.specs.CampaignBooks.{planned, acks_of_case};
 
 use crate::completion::run_to_end;
-use crate::entered::Entered;
 use crate::linked::Linked;
 use crate::listed::Listed;
 use campaign_core::Row;
 use ccp_base::{Ack, Acks, NoMemory, Sequence};
-use flow_core::Cell;
+use flow_core::{Case, Cell};
 use std::alloc::Global;
 
 /// A result that a worker makes of each of its cases.
@@ -19,15 +18,15 @@ pub(crate) trait CaseResult: Drop {
     ghost of_case: { Case → Self };
 
     /// Runs the case along its campaign word.
-    fn make(alloc: Global, entered: Entered) -> Result<Self, NoMemory>
-        ensures { IfOk result (λ made. made ≡ of_case entered.case) };
+    fn make(alloc: Global, case: Case) -> Result<Self, NoMemory>
+        ensures { IfOk result (λ made. made ≡ of_case case) };
 }
 
 impl CaseResult for Row {
     ghost of_case = { case_row };
 
-    fn make(alloc: Global, entered: Entered) -> Result<Row, NoMemory> {
-        let run = run_to_end(alloc, Linked::new(alloc, entered.into_case())?)?;
+    fn make(alloc: Global, case: Case) -> Result<Row, NoMemory> {
+        let run = run_to_end(alloc, Linked::new(alloc, case)?)?;
         let row = run.row();
         drop(run);
         Ok(row)
@@ -38,8 +37,8 @@ impl CaseResult for Row {
 impl CaseResult for Cell {
     ghost of_case = { planned };
 
-    fn make(alloc: Global, entered: Entered) -> Result<Cell, NoMemory> {
-        let run = run_to_end(alloc, Cell::new(alloc, entered.into_case())?)?;
+    fn make(alloc: Global, case: Case) -> Result<Cell, NoMemory> {
+        let run = run_to_end(alloc, Cell::new(alloc, case)?)?;
         Ok(run.flow)
     }
 }
@@ -48,8 +47,8 @@ impl CaseResult for Cell {
 impl CaseResult for Sequence<Ack> {
     ghost of_case = { acks_of_case };
 
-    fn make(alloc: Global, entered: Entered) -> Result<Acks, NoMemory> {
-        let run = run_to_end(alloc, Listed::new(alloc, entered.into_case())?)?;
+    fn make(alloc: Global, case: Case) -> Result<Acks, NoMemory> {
+        let run = run_to_end(alloc, Listed::new(alloc, case)?)?;
         let Listed { linked, acks } = run.flow;
         drop(linked);
         Ok(acks)

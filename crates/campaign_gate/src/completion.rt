@@ -15,9 +15,9 @@ pub(crate) fn run_to_end<F: CampaignFlow>(alloc: Global, flow: F) -> Result<Case
     let mut run = CaseRun::begin(flow);
     match complete(alloc, &mut run) {
         Ok(()) => Ok(run),
-        Err(NoMemory) => {
+        Err(error) => {
             drop(run);
-            Err(NoMemory)
+            Err(error)
         }
     }
 }

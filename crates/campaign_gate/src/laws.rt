@@ -3,7 +3,7 @@ ghost use Rattle.std.specs.Prelude.{◌≡◌, true};
 ghost use Rattle.flow_core.specs.Readings.{over_codes};
 ghost use Rattle.flow_core.specs.Words.{world, legal, is_complete};
 ghost use Rattle.campaign_core.specs.CampaignWord.{plan};
-ghost use Rattle.campaign_gate.specs.ReportsMade.{RowCountsReports};
+ghost use Rattle.campaign_gate.specs.RowReports.{RowCountsReports};
 
 use flow_core::Case;
 

@@ -3,10 +3,10 @@
 
 pub mod calls;
 mod campaign_flow;
+mod case_desk;
 mod case_result;
 mod case_run;
 mod completion;
-mod entered;
 mod laws;
 mod linked;
 mod listed;

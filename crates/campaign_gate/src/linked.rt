@@ -1,6 +1,8 @@
 //! A flow without its history, with its link: the flow of a row.
-ghost use Rattle.std.specs.Prelude.{◌≡◌, refl, IfOk};
+ghost use Rattle.std.specs.Prelude.{◌≡◌, ◌||◌, refl, IfOk};
+ghost use Rattle.link_model.specs.Rated.{rated};
 ghost use Rattle.flow_core.specs.Cells.{CellState, ack_at};
+ghost use Rattle.flow_core.specs.ReadsRates.{case_reads_rates};
 ghost use Rattle.campaign_gate.specs.CaseRuns.{opened, MayMake, Makes};
 ghost use Rattle.campaign_gate.specs.LinkedFlows.{linked_at};
 
@@ -16,6 +18,8 @@ use std::alloc::Global;
 pub(crate) struct Linked {
     pub(crate) bare: Bare,
     pub(crate) link: Link,
+    /// Whether a program of the flow's case reads a rate. If none does, the link computes no rates for it.
+    pub(crate) reads_rates: bool,
 }
 
 impl Linked {
@@ -24,8 +28,13 @@ impl Linked {
         ensures { IfOk result (λ linked. linked ≡ linked_at (opened case)) }
     {
         let bare = Bare::new(alloc, case)?;
+        let reads_rates = bare.case().reads_rates();
         match bare.case().open_link(alloc) {
-            Ok(link) => Ok(Linked { bare, link }),
+            Ok(link) => Ok(Linked {
+                bare,
+                link,
+                reads_rates,
+            }),
             Err(fault) => {
                 drop(bare);
                 Err(fault)
@@ -33,17 +42,28 @@ impl Linked {
         }
     }
 
-    /// Takes the link's next acknowledgement, and gives it.
+    /// Takes the link's next acknowledgement, and gives it. Its two rates are computed only if a program of the flow
+    /// reads one or `whole` is true, and are 0 otherwise.
     #[inline(always)]
-    pub(crate) fn take_ack(&mut self) -> Ack
+    pub(crate) fn take_ack(&mut self, whole: bool) -> Ack
         requires { MayMake linked_at Letter.A self.old }
         ensures made { Makes linked_at Letter.A self.old self.new }
-        ensures ack { (cell : CellState) → self.old ≡ linked_at cell → result ≡ ack_at cell }
+        ensures ack { (cell : CellState) → self.old ≡ linked_at cell
+            → result ≡ rated (whole || case_reads_rates cell.case) (ack_at cell) }
     {
         let window = self.bare.cwnd();
-        let ack = self.link.next(window);
+        let rates = self.needs_rates(whole);
+        let ack = self.link.next_rated(window, rates);
         self.bare.hear(&ack);
         ack
+    }
+
+    /// Whether the link computes the rates of the next acknowledgement: `whole` is as in `take_ack`.
+    #[inline(always)]
+    fn needs_rates(&self, whole: bool) -> bool
+        ensures { result ≡ (whole || self.now.reads_rates) }
+    {
+        whole || self.reads_rates
     }
 }
 
@@ -69,7 +89,7 @@ impl CampaignFlow for Linked {
     }
 
     fn hear(&mut self, sums: &mut Sums) -> Result<(), NoMemory> {
-        let ack = self.take_ack();
+        let ack = self.take_ack(false);
         *sums = sums.with(&ack);
         Ok(())
     }

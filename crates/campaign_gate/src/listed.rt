@@ -28,9 +28,9 @@ impl Listed {
                 linked,
                 acks: Acks::from_vec(places),
             }),
-            Err(_) => {
+            Err(error) => {
                 drop(linked);
-                Err(NoMemory)
+                Err(NoMemory::from(error))
             }
         }
     }
@@ -57,7 +57,7 @@ impl CampaignFlow for Listed {
     }
 
     fn hear(&mut self, sums: &mut Sums) -> Result<(), NoMemory> {
-        let ack = self.linked.take_ack();
+        let ack = self.linked.take_ack(true);
         *sums = sums.with(&ack);
         self.acks.push(ack)?;
         Ok(())

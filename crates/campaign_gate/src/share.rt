@@ -1,16 +1,17 @@
 //! A worker's share of a campaign: its cases, which are chosen by their numbers, and their results.
-ghost use Rattle.std.specs.Prelude.{◌≡◌, ◌<◌, ◌≤◌, [], List, map, length, IfOk, OnOk};
+ghost use Rattle.std.specs.Prelude.{◌≡◌, ◌<◌, ◌≤◌, [], List, map, length, IfOk};
 ghost use Rattle.ccp_base.specs.Limits.{most_cases};
 ghost use Rattle.flow_core.specs.declared.case.Case.{Case};
-ghost use Rattle.campaign_gate.specs.Shares.{every};
+ghost use Rattle.worker_desk.specs.EveryNth.{every};
 
+use crate::case_desk::CampaignDesk;
 use crate::case_result::CaseResult;
-use crate::entered::Entered;
 use crate::queue::Queue;
-use ccp_base::{Gate, NoMemory, Point, Workers};
+use ccp_base::{Gate, NoMemory, Workers};
 use flow_core::Case;
 use std::alloc::Global;
 use std::marker::{Brand, PhantomData};
+use worker_desk::{CasesRun, run_cases};
 
 /// The cases of a campaign, which the type of a worker's share names.
 pub(crate) trait Campaign {
@@ -21,15 +22,15 @@ impl Campaign for Brand {
     ghost cases = { [] };
 }
 
-/// The results of worker `worker` of `workers`: one for each case `i` with `i mod workers = worker`, in order, and
-/// nothing else.
+/// The results of a worker: one for each of its cases, in order, and nothing else. Its receipt says which worker it is,
+/// and that it did its work at a desk.
 #[derive(Drop)]
 pub(crate) struct Share<C: Campaign, M: CaseResult> {
-    pub(crate) worker: u32,
-    pub(crate) workers: Workers,
+    pub(crate) run: CasesRun,
     pub(crate) made: Queue<M>,
     of: PhantomData<C>,
-    ghost is_share: { made ≡ every workers.count worker (map M.of_case C.cases) },
+    ghost is_share: { made ≡ every run.workers run.worker (map M.of_case C.cases) },
+    ghost all: { run.cases ≡ length C.cases },
 }
 
 /// Does the work of one worker. It passes `gate` at `InCase` before a case and at `AfterCase` after it.
@@ -43,40 +44,19 @@ pub(crate) fn share_of<C: Campaign, M: CaseResult, G: Gate>(
     requires cases { cases.now ≡ C.cases }
     requires few { length cases.now ≤ most_cases }
     requires worker { worker < workers.count }
-    ensures worker { IfOk result (λ share. share.worker ≡ worker) }
-    ensures workers { IfOk result (λ share. share.workers ≡ workers) }
+    ensures worker { IfOk result (λ share. share.run.worker ≡ worker) }
+    ensures workers { IfOk result (λ share. share.run.workers ≡ workers.count) }
 {
-    let mut made = Queue::new(alloc);
-    put_share(alloc, &mut made, cases, workers, worker, gate)?;
+    let mut desk = CampaignDesk {
+        alloc,
+        cases,
+        made: Queue::new(alloc),
+        gate,
+    };
+    let run = run_cases(&mut desk, worker, workers)?;
     Ok(Share {
-        worker,
-        workers,
-        made,
+        run,
+        made: desk.made,
         of: PhantomData,
     })
-}
-
-/// Puts the results of a worker's cases into a queue that is empty.
-fn put_share<M: CaseResult, G: Gate>(
-    alloc: Global,
-    made: &mut Queue<M>,
-    cases: &[Case],
-    workers: Workers,
-    worker: u32,
-    gate: &G,
-) -> Result<(), NoMemory>
-    requires empty { made.old ≡ [] }
-    requires few { length cases.now ≤ most_cases }
-    requires worker { worker < workers.count }
-    ensures { OnOk result (made.new ≡ every workers.count worker (map M.of_case cases.now)) }
-{
-    let mut number = worker;
-    while let Some(case) = cases.get(number as usize) {
-        let entered = Entered::enter(gate, worker, number, case.copy(alloc)?);
-        let one = M::make(alloc, entered)?;
-        gate.pass(worker, Point::AfterCase, number);
-        made.put(one)?;
-        number += workers.count();
-    }
-    Ok(())
 }

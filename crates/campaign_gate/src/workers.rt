@@ -33,8 +33,8 @@ pub(crate) fn make_by_workers<
 {
     let part = |worker: usize| -> Result<Share<C, M>, NoMemory>
         requires { HasPart worker workers cases.now C.cases }
-        ensures worker { IfOk result (λ share. share.worker ≡ worker) }
-        ensures workers { IfOk result (λ share. share.workers ≡ workers) }
+        ensures worker { IfOk result (λ share. share.run.worker ≡ worker) }
+        ensures workers { IfOk result (λ share. share.run.workers ≡ workers.count) }
     { share_of::<C, M, G>(alloc, cases, workers, worker as u32, gate) };
     let parts = thread::map_indices(rt, alloc, workers.count() as usize, &part)?;
     let queues = queues_of::<C, M>(alloc, Queue::from_vec(parts), workers)?;
@@ -49,7 +49,7 @@ fn queues_of<C: Campaign, M: CaseResult>(
 ) -> Result<Queue<Queue<M>>, NoMemory>
     requires len { length parts ≡ workers.count }
     requires each { (worker : ℕ) → IfSome (slice_get parts worker) (λ part.
-        IfOk part (λ share. (share.worker ≡ worker) × (share.workers ≡ workers))) }
+        IfOk part (λ share. (share.run.worker ≡ worker) × (share.run.workers ≡ workers.count))) }
     ensures { IfOk result (λ queues. queues ≡ shares workers.count (map M.of_case C.cases)) }
 {
     let mut parts = parts;

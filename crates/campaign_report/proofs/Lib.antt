@@ -2,5 +2,6 @@
 mod CompiledCounts
 pub mod BookLemmas
 mod LabelLemmas
+mod LineLemmas
 mod OwnLemmas
 mod WorkedAcks

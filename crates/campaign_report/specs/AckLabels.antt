@@ -1,21 +1,30 @@
--- The line of an acknowledgement by labels: each primitive's name together with the sign after it.
-use Rattle.std.specs.Prelude.{ℕ, ◌+◌, ◌||◌, Bool, if◌then◌else◌, List, [], ◌∷◌, ◌++◌, codes, decimal}
-use Rattle.ccp_base.specs.declared.ack.Ack.{Ack}
-use Rattle.ccp_base.specs.Acknowledgement.{prim}
-use Rattle.ccp_base.specs.PrimitiveNames.{PrimitiveName}
-use Rattle.campaign_report.specs.AcksText.{gap, is_shown}
+-- The line of an acknowledgement by labels: each is a blank, a primitive's name and `=`.
+use Rattle.std.specs.Prelude.{ℕ, zero, suc, if◌then◌else◌, List, [], ◌++◌, map, codes, decimal, slice_index, slice_index_or}
+use Rattle.ccp_base.specs.PrimitiveNames.{PrimitiveName, primitive_names}
+use Rattle.campaign_report.specs.AcksText.{is_shown}
+
+-- the most bytes of a label, of an item, and of a line
+abbrev pub label_size : ℕ
+label_size = 20
+
+abbrev pub item_size : ℕ
+item_size = 40
+
+abbrev pub line_size : ℕ
+line_size = 601
 
 abbrev pub label_of : PrimitiveName → List ℕ
-label_of known = known.1 ++ codes "="
+label_of known = codes " " ++ (known.1 ++ codes "=")
 
--- the item of a primitive with this number, label and value, if it is shown
-abbrev pub labelled_item : Bool → ℕ → List ℕ → ℕ → List ℕ
-labelled_item follows number label value =
-    if is_shown number value then gap follows ++ (label ++ decimal value) else []
+-- the label of the primitive with this number
+abbrev pub label_at : ℕ → List ℕ
+label_at number = slice_index_or (map label_of primitive_names) number []
 
--- the items of the primitives with these labels, numbered from this one on
-abbrev pub labelled_items : Bool → ℕ → List (List ℕ) → Ack → List ℕ
-labelled_items follows number [] ack = []
-labelled_items follows number (label ∷ rest) ack =
-    labelled_item follows number label (prim number ack)
-    ++ labelled_items (follows || is_shown number (prim number ack)) (number + 1) rest ack
+-- the item of a primitive with this number and value, if it is shown
+abbrev pub item_of : ℕ → ℕ → List ℕ
+item_of number value = if is_shown number value then label_at number ++ decimal value else []
+
+-- the items of the primitives below this number, by the list of all values
+abbrev pub first_items : ℕ → List ℕ → List ℕ
+first_items zero values = []
+first_items (suc number) values = first_items number values ++ item_of number (slice_index values number)

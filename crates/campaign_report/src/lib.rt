@@ -2,6 +2,7 @@
 //! the frames that install programs.
 #![tactic(auto)]
 
+mod ack_line;
 mod acks;
 mod check;
 mod fold;

@@ -1,18 +1,16 @@
 //! The text of a live run: for each flow its epochs, faults with their places, tickets and end.
 ghost use Rattle.std.specs.Prelude.{◌≡◌, ◌++◌, IfOk, OnOk};
 ghost use Rattle.std.specs.List.{All};
-ghost use Rattle.flow_core.specs.LiveText.{account_end_line, sources_of, ticket_lines};
+ghost use Rattle.flow_core.specs.LiveText.{sources_of};
 ghost use Rattle.flow_core.specs.Words.{acks_in};
+ghost use Rattle.live_lines.specs.FlowParts.{body_text};
 ghost use Rattle.campaign_report.specs.BookText.{account_in, book_text, books_text, end_in, last_program};
 ghost use Rattle.campaign_report.specs.BooksRead.{IsBookRead, read_text};
 
 use crate::programs::CasePlaces;
-use ccp_base::{Bytes, NoMemory};
-use flow_core::{Book, EpochLine, Letter, TicketLine};
-use live_lines::{
-    Counts, fields_of, put_epoch_lines, put_fault_lines, put_flow_line, put_last_line,
-    put_ticket_line, report_count,
-};
+use ccp_base::{Bytes, NoMemory, Notice};
+use flow_core::{Book, EpochLine, Letter};
+use live_lines::{FlowPart, PlacedFaults, put_fault_lines, put_flow_body, put_flow_line};
 use reg_compiler::{Built, Builts};
 use report_lines::End;
 use std::alloc::Global;
@@ -46,37 +44,50 @@ fn put_book(text: &mut Bytes, programs: &[(u32, Built)], book: &Book) -> Result<
 {
     let case = &book.case;
     put_flow_line(text, case.flow, &case.name, &case.agent)?;
-    put_epoch_lines(text, book.epochs.as_slice())?;
-    put_fault_lines(text, &CasePlaces { programs, case }, book.faults.as_slice())?;
-    put_tickets(text, programs, book.tickets.as_slice())?;
-    put_last(text, programs, book)
+    put_body(text, programs, book)
 }
 
-fn put_tickets(
-    text: &mut Bytes,
-    programs: &[(u32, Built)],
-    tickets: &[TicketLine],
-) -> Result<(), NoMemory>
-    ensures { OnOk result (text.new ≡ text.old ++ ticket_lines (sources_of programs.now) 0 tickets.now) }
-{
-    for (number, ticket) in tickets.iter().enumerate() {
-        put_ticket_line(text, programs, number, ticket)?;
-    }
-    Ok(())
-}
-
-/// Appends the last line of a flow.
-fn put_last(text: &mut Bytes, programs: &[(u32, Built)], book: &Book) -> Result<(), NoMemory>
+/// Appends a book's part of the text after its flow's first line.
+fn put_body(text: &mut Bytes, programs: &[(u32, Built)], book: &Book) -> Result<(), NoMemory>
     ensures { OnOk result (text.new
-        ≡ text.old ++ account_end_line (sources_of programs.now) (account_in programs.now book.now)) }
+        ≡ text.old ++ body_text (sources_of programs.now) (account_in programs.now book.now)) }
 {
-    let counts = Counts {
-        reports: report_count(book.tickets.as_slice()),
-        held: book.held,
-        faults: book.faults.len(),
+    let case = &book.case;
+    let faults = BookFaults {
+        places: CasePlaces { programs, case },
+        faults: book.faults.as_slice(),
     };
-    let fields = fields_of(programs, last_program(book.epochs.as_slice()));
-    put_last_line(text, fields, counts, &end_in(book))
+    let epochs = book.epochs.as_slice();
+    let part = FlowPart {
+        epochs,
+        tickets: book.tickets.as_slice(),
+        held: book.held,
+        program: last_program(epochs),
+        end: &end_in(book),
+    };
+    put_flow_body(text, programs, &part, &faults)
+}
+
+/// The faults of a book, at the places of its case's instructions.
+#[derive(Clone, Copy)]
+struct BookFaults<'a> {
+    places: CasePlaces<'a>,
+    faults: &'a [Notice],
+}
+
+impl<'a> PlacedFaults for BookFaults<'a> {
+    ghost use Rattle.std.specs.Prelude.{map};
+    ghost use Rattle.campaign_report.specs.BookText.{placed_failure};
+
+    ghost failures = { λ book. map (placed_failure book.places.programs.now book.places.case.now) book.faults.now };
+
+    fn put(&self, text: &mut Bytes) -> Result<(), NoMemory> {
+        put_fault_lines(text, &self.places, self.faults)
+    }
+
+    fn count(&self) -> usize {
+        self.faults.len()
+    }
 }
 
 /// How a book's flow stands at the end.

@@ -3,6 +3,7 @@ use Rattle.std.specs.Prelude.{◌≡◌, ◌⊎◌, ℕ, Option, Result, Ok, Err
 use Rattle.std.specs.Iterator.{Drains}
 use Rattle.std.specs.IoError.{error_kind}
 use Rattle.std.specs.declared.io.Error.{Error}
+use Rattle.ccp_base.specs.Outside.{no_memory}
 use Rattle.ccp_run.specs.declared.outcome.Outcome.{Outcome}
 use Rattle.ccp_run.specs.declared.status.Status.{Status}
 use Rattle.ccp_run.specs.declared.status.Status.TheVariants as ends
@@ -28,7 +29,7 @@ pub record Reports (end : Status) (line : List ℕ) (errors : StreamChange) (num
 -- words that aren't text are reported as words are that the tool doesn't accept
 abbrev pub ReportsFault : WordsFault → StreamChange → ℕ → Type 0
 ReportsFault faults.NotText errors number = Reports ends.WordsRefused words_line errors number
-ReportsFault faults.NoMemory errors number = Reports ends.NoMemory memory_line errors number
+ReportsFault (faults.NoMemory _) errors number = Reports (ends.NoMemory no_memory) memory_line errors number
 
 -- nothing is read or written, and why there are no words is reported
 pub record EndsWithout (fault : WordsFault) (source sink errors : StreamChange) (number : ℕ) : Type 0 where
@@ -48,6 +49,6 @@ pub record RunsOnAll {I Z : Type 0} (next : I → Option (String Z) → I → Ty
 abbrev pub IsProcess : {I Z : Type 0} → (I → Option (String Z) → I → Type 0) → Result I Error → StreamChange
     → StreamChange → StreamChange → Type 0 → ℕ → Type 0
 IsProcess next (Ok given) source sink errors is_finished number =
-    RunsOnAll next given source sink errors is_finished number ⊎ EndsWithout faults.NoMemory source sink errors number
+    RunsOnAll next given source sink errors is_finished number ⊎ EndsWithout (faults.NoMemory no_memory) source sink errors number
 IsProcess next (Err error) source sink errors is_finished number =
     EndsWithout (words_fault (error_kind error)) source sink errors number

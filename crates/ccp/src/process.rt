@@ -69,6 +69,6 @@ fn end_without_words<E: Sink>(alloc: Global, fault: WordsFault, errors: &mut E) 
 {
     match fault {
         WordsFault::NotText => ExitCode::from(refuse_words(alloc, errors).status),
-        WordsFault::NoMemory => ExitCode::from(without_words(alloc, errors).status),
+        WordsFault::NoMemory(error) => ExitCode::from(without_words(alloc, errors, error).status),
     }
 }

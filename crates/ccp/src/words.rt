@@ -1,8 +1,10 @@
 //! The words of the command line, as the system gives them to the process.
 ghost use Rattle.std.specs.Prelude.{◌≡◌, IfOk, IfErr};
 ghost use Rattle.std.specs.Iterator.{IsFinite};
+ghost use Rattle.ccp_base.specs.Outside.{no_memory};
 ghost use Rattle.ccp.specs.Words.{words_fault, AreWords, IsCause};
 
+use ccp_base::NoMemory;
 use std::alloc::{AllocError, Global};
 use std::io;
 use std::io::ErrorKind;
@@ -13,17 +15,17 @@ pub enum WordsFault {
     /// The system reports an error other than out of memory: one of the words isn't UTF-8.
     NotText,
     /// Out of memory, for the words or for their list.
-    NoMemory,
+    NoMemory(NoMemory),
 }
 
 impl From<AllocError> for WordsFault {
     ghost use Rattle.std.specs.Prelude.{◌≡◌};
     ghost use Rattle.ccp.specs.declared.words.WordsFault.TheVariants as fault;
 
-    ghost from_gives = { λ _ e. e ≡ fault.NoMemory };
+    ghost from_gives = { λ _ e. e ≡ fault.NoMemory no_memory };
 
-    fn from(_: AllocError) -> WordsFault {
-        WordsFault::NoMemory
+    fn from(error: AllocError) -> WordsFault {
+        WordsFault::NoMemory(NoMemory::from(error))
     }
 }
 
@@ -32,7 +34,8 @@ fn fault_of(kind: ErrorKind) -> WordsFault
     ensures { result ≡ words_fault kind }
 {
     match kind {
-        ErrorKind::OutOfMemory => WordsFault::NoMemory,
+        // by this kind the system reports a refused growth
+        ErrorKind::OutOfMemory => WordsFault::from(AllocError),
         _ => WordsFault::NotText,
     }
 }

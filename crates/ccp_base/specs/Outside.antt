@@ -1,6 +1,11 @@
 -- What calls of streams do to the bytes that are left or written, and to their counts of faults.
 use Rattle.std.specs.Prelude.{◌≡◌, ℕ, ◌-◌, ◌^◌, ◌<◌, ◌≤◌, Option, Some, None, is_some, option_map, List, [], ◌++◌, length, take}
 use Rattle.std.proofs.Common.{ap, ◌∙◌, sym, append_assoc}
+use Rattle.ccp_base.specs.declared.outside.NoMemory.{NoMemory}
+
+-- out of memory, the one value of its type
+abbrev pub no_memory : NoMemory
+no_memory = record { 0 = tt }
 
 -- the bytes that a source has left or that were written to a sink, if they are known
 abbrev pub Known : Type 0

@@ -1,27 +1,28 @@
 //! Why calls to the outside fail: out of memory, or a read or a write that failed.
 ghost use Rattle.std.specs.Prelude.{◌≡◌, ◌+◌, ◌≤◌, min};
-ghost use Rattle.ccp_base.specs.Outside.{Rose};
+ghost use Rattle.ccp_base.specs.Outside.{Rose, no_memory};
 ghost use Rattle.ccp_base.specs.declared.outside.ReadFault.TheVariants as read_fault;
 
 use std::alloc::{AllocError, AllocFailed};
 
-/// Out of memory.
-#[derive(Clone, Copy, Debug)]
-pub struct NoMemory;
+/// Out of memory: a growth was refused. It is made of the errors of std's calls that allocate, and of nothing else, so
+/// no call can report it for another reason.
+#[derive(Clone, Copy, PartialEq, Eq, Debug)]
+pub struct NoMemory(());
 
 impl From<AllocError> for NoMemory {
-    ghost from_gives = { λ _ fault. fault ≡ record {} };
+    ghost from_gives = { λ _ fault. fault ≡ no_memory };
 
     fn from(_error: AllocError) -> NoMemory {
-        NoMemory
+        NoMemory(())
     }
 }
 
 impl<T: Drop> From<AllocFailed<T>> for NoMemory {
-    ghost from_gives = { λ _ fault. fault ≡ record {} };
+    ghost from_gives = { λ _ fault. fault ≡ no_memory };
 
     fn from(_error: AllocFailed<T>) -> NoMemory {
-        NoMemory
+        NoMemory(())
     }
 }
 
@@ -46,13 +47,13 @@ pub enum ReadFault {
     Read,
     /// The source has more bytes than the limit.
     TooLong,
-    NoMemory,
+    NoMemory(NoMemory),
 }
 
 impl From<AllocError> for ReadFault {
-    ghost from_gives = { λ _ fault. fault ≡ read_fault.NoMemory };
+    ghost from_gives = { λ _ fault. fault ≡ read_fault.NoMemory no_memory };
 
-    fn from(_error: AllocError) -> ReadFault {
-        ReadFault::NoMemory
+    fn from(error: AllocError) -> ReadFault {
+        ReadFault::NoMemory(NoMemory::from(error))
     }
 }

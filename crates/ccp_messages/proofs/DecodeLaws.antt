@@ -2,6 +2,7 @@
 use Rattle.std.proofs.Common.{◌≡◌, ◌≢◌, ℕ, ◌-◌, ◌<◌, List, [], ◌∷◌, ◌++◌, length, Result, Ok, Err, refl, sym, ap, subst, ◌∙◌, arith, length-append}
 use Rattle.std.specs.Prelude.{IfOk}
 use Rattle.std.proofs.lemmas.List.{append-nil}
+use Rattle.ccp_base.specs.Outside.{no_memory}
 use Rattle.reply_frames.specs.declared.fault.BadKind.{BadKind}
 use Rattle.reply_frames.specs.declared.fault.Stop.{Stop}
 use Rattle.reply_frames.specs.declared.fault.Stop.TheVariants as stops
@@ -114,10 +115,10 @@ abbrev pub IsTold : List ℕ → Result Found DecodeFault → Type 0
 IsTold bytes result = IsDecoded result (decoded_of bytes)
 
 told-ok : (bytes : List ℕ) (f : Found) → IsTold bytes (Ok f) → decoded_of bytes ≡ Ok f
-told-ok bytes f told = sym (told (λ (e : ◌≡◌ {A = Result Found DecodeFault} (Ok f) (Err NoMemory)). cc))
+told-ok bytes f told = sym (told (λ (e : ◌≡◌ {A = Result Found DecodeFault} (Ok f) (Err (NoMemory no_memory))). cc))
 
-told-err : (bytes : List ℕ) (fault : DecodeFault) → fault ≢ NoMemory → IsTold bytes (Err fault) → decoded_of bytes ≡ Err fault
-told-err bytes fault some told = sym (told (λ (e : ◌≡◌ {A = Result Found DecodeFault} (Err fault) (Err NoMemory)). some cc))
+told-err : (bytes : List ℕ) (fault : DecodeFault) → fault ≢ NoMemory no_memory → IsTold bytes (Err fault) → decoded_of bytes ≡ Err fault
+told-err bytes fault some told = sym (told (λ (e : ◌≡◌ {A = Result Found DecodeFault} (Err fault) (Err (NoMemory no_memory))). some cc))
 
 pub told_found : (bytes : List ℕ) (result : Result Found DecodeFault) → AllBytes bytes → IsTold bytes result → IfOk result (λ x. Begins bytes x.0 x.1 x.2)
 told_found bytes (Ok f) fits told = decoded-begins bytes f fits (told-ok bytes f told)
@@ -128,7 +129,7 @@ told_only bytes result told m v n begins some = told some ∙ begins-decoded byt
 
 pub told_more : (bytes : List ℕ) (result : Result Found DecodeFault) → IsTold bytes result → (n : ℕ) → result ≡ Err (More n) → IsFrameFront bytes × (n ≡ needed_of bytes)
 told_more bytes result told n e =
-    let some : (result ≢ Err NoMemory) = λ none. let clash : ◌≡◌ {A = Result Found DecodeFault} (Err (More n)) (Err NoMemory) = sym e ∙ none in cc in
+    let some : (result ≢ Err (NoMemory no_memory)) = λ none. let clash : ◌≡◌ {A = Result Found DecodeFault} (Err (More n)) (Err (NoMemory no_memory)) = sym e ∙ none in cc in
     decoded-more bytes n (sym (told some) ∙ e)
 
 told_cut : (bytes : List ℕ) (result : Result Found DecodeFault) → IsTold bytes result → IsFrameFront bytes → IsDecoded result (Err (More (needed_of bytes)))
@@ -136,7 +137,7 @@ told_cut bytes result told cut some = told some ∙ cut-more bytes cut
 
 pub told_bad : (bytes : List ℕ) (result : Result Found DecodeFault) → IsTold bytes result → (field : BadKind) (place : ℕ) → result ≡ Err (Bad field place) → IsBadIn bytes field place
 told_bad bytes result told field place e =
-    let some : (result ≢ Err NoMemory) = λ none. let clash : ◌≡◌ {A = Result Found DecodeFault} (Err (Bad field place)) (Err NoMemory) = sym e ∙ none in cc in
+    let some : (result ≢ Err (NoMemory no_memory)) = λ none. let clash : ◌≡◌ {A = Result Found DecodeFault} (Err (Bad field place)) (Err (NoMemory no_memory)) = sym e ∙ none in cc in
     decoded-bad bytes field place (sym (told some) ∙ e)
 
 -- ---- an Install without memory for its code
@@ -160,10 +161,10 @@ lacks-bad bytes field place is =
     let at : length bytes - (length bytes - place) ≡ place = omega (arith, within) in
     ap (λ read. decoded_from bytes (found_from (length bytes) read)) is.1 ∙ ap (λ n. Err (Bad field n)) at
 
-lacks-other : (bytes : List ℕ) (number : ℕ) → replies.decoded_of bytes ≡ Err (faults.Other number) → LacksCode NoMemory (decoded_of bytes)
+lacks-other : (bytes : List ℕ) (number : ℕ) → replies.decoded_of bytes ≡ Err (faults.Other number) → LacksCode (NoMemory no_memory) (decoded_of bytes)
 lacks-other bytes number e = whole-other bytes (frame_at bytes) number e
 
-pub lacks-reply : (bytes : List ℕ) (reply : ReplyHead × List Pair) → replies.decoded_of bytes ≡ Ok reply → LacksCode NoMemory (decoded_of bytes)
+pub lacks-reply : (bytes : List ℕ) (reply : ReplyHead × List Pair) → replies.decoded_of bytes ≡ Ok reply → LacksCode (NoMemory no_memory) (decoded_of bytes)
 lacks-reply bytes reply e = whole-reply bytes (frame_at bytes) reply e
 
 pub lacks-fault : (bytes : List ℕ) (fault : FrameFault) (result : Result ReplyHead FrameFault) → result ≡ Err fault
@@ -177,32 +178,32 @@ lacks-fault bytes (faults.Other number) result is more bad e = lacks-other bytes
 pub lacks-told : (fault : DecodeFault) (answer : Result Found DecodeFault) → LacksCode fault answer → IsDecoded (Err fault) answer
 lacks-told (More needed) answer lacks some = sym lacks
 lacks-told (Bad field place) answer lacks some = sym lacks
-lacks-told NoMemory answer lacks some = absurd (some refl)
+lacks-told (NoMemory _) answer lacks some = absurd (some refl)
 
-pub lacks-found : (fault : DecodeFault) (answer : Result Found DecodeFault) → LacksCode fault answer → ◌≡◌ {A = Result Found DecodeFault} (Err fault) (Err NoMemory) → IsFound answer
+pub lacks-found : (fault : DecodeFault) (answer : Result Found DecodeFault) → LacksCode fault answer → ◌≡◌ {A = Result Found DecodeFault} (Err fault) (Err (NoMemory no_memory)) → IsFound answer
 lacks-found (More needed) answer lacks none = absurd cc
 lacks-found (Bad field place) answer lacks none = absurd cc
-lacks-found NoMemory answer lacks none = lacks
+lacks-found (NoMemory _) answer lacks none = lacks
 
 -- the answer is out of memory only for a whole frame
 pub told_whole : (bytes : List ℕ) → AllBytes bytes → IsFound (decoded_of bytes) → (m : Message) × (v : Version) × (n : ℕ) × Begins bytes m v n
 told_whole bytes fits found = (found.0.0, found.0.1, found.0.2, decoded-begins bytes found.0 fits found.1)
 
-pub cut_always : (bytes : List ℕ) (result : Result Found DecodeFault) → IsTold bytes result → (result ≡ Err NoMemory → IsFound (decoded_of bytes)) → IsFrameFront bytes → result ≡ Err (More (needed_of bytes))
-cut_always bytes (Ok f) told whole cut = told_cut bytes (Ok f) told cut (λ (e : ◌≡◌ {A = Result Found DecodeFault} (Ok f) (Err NoMemory)). cc)
-cut_always bytes (Err (More n)) told whole cut = told_cut bytes (Err (More n)) told cut (λ (e : ◌≡◌ {A = Result Found DecodeFault} (Err (More n)) (Err NoMemory)). cc)
-cut_always bytes (Err (Bad field place)) told whole cut = told_cut bytes (Err (Bad field place)) told cut (λ (e : ◌≡◌ {A = Result Found DecodeFault} (Err (Bad field place)) (Err NoMemory)). cc)
-cut_always bytes (Err NoMemory) told whole cut =
+pub cut_always : (bytes : List ℕ) (result : Result Found DecodeFault) → IsTold bytes result → (result ≡ Err (NoMemory no_memory) → IsFound (decoded_of bytes)) → IsFrameFront bytes → result ≡ Err (More (needed_of bytes))
+cut_always bytes (Ok f) told whole cut = told_cut bytes (Ok f) told cut (λ (e : ◌≡◌ {A = Result Found DecodeFault} (Ok f) (Err (NoMemory no_memory))). cc)
+cut_always bytes (Err (More n)) told whole cut = told_cut bytes (Err (More n)) told cut (λ (e : ◌≡◌ {A = Result Found DecodeFault} (Err (More n)) (Err (NoMemory no_memory))). cc)
+cut_always bytes (Err (Bad field place)) told whole cut = told_cut bytes (Err (Bad field place)) told cut (λ (e : ◌≡◌ {A = Result Found DecodeFault} (Err (Bad field place)) (Err (NoMemory no_memory))). cc)
+cut_always bytes (Err (NoMemory no_memory)) told whole cut =
     let found = whole refl in
     let clash : ◌≡◌ {A = Result Found DecodeFault} (Ok found.0) (Err (More (needed_of bytes))) = sym found.1 ∙ cut-more bytes cut in
     absurd cc
 
-pub refused_always : (bytes : List ℕ) (result : Result Found DecodeFault) → AllBytes bytes → IsTold bytes result → (result ≡ Err NoMemory → IsFound (decoded_of bytes)) → ((m : Message) (v : Version) (n : ℕ) → ¬ Begins bytes m v n) → ¬ IsFrameFront bytes → IsBad result
+pub refused_always : (bytes : List ℕ) (result : Result Found DecodeFault) → AllBytes bytes → IsTold bytes result → (result ≡ Err (NoMemory no_memory) → IsFound (decoded_of bytes)) → ((m : Message) (v : Version) (n : ℕ) → ¬ Begins bytes m v n) → ¬ IsFrameFront bytes → IsBad result
 refused_always bytes (Ok f) fits told whole none front = none f.0 f.1 f.2 (decoded-begins bytes f fits (told-ok bytes f told))
 refused_always bytes (Err (More n)) fits told whole none front =
-    front (decoded-more bytes n (told-err bytes (More n) (λ (e : More n ≡ NoMemory). cc) told)).0
+    front (decoded-more bytes n (told-err bytes (More n) (λ (e : More n ≡ NoMemory no_memory). cc) told)).0
 refused_always bytes (Err (Bad field place)) fits told whole none front = tt
-refused_always bytes (Err NoMemory) fits told whole none front = let found = whole refl in none found.0.0 found.0.1 found.0.2 (decoded-begins bytes found.0 fits found.1)
+refused_always bytes (Err (NoMemory _)) fits told whole none front = let found = whole refl in none found.0.0 found.0.1 found.0.2 (decoded-begins bytes found.0 fits found.1)
 
 -- ---- the laws
 

@@ -1,6 +1,7 @@
 -- What reading a message from the front of bytes gives.
 use Rattle.std.specs.Prelude.{◌≡◌, ◌≢◌, ℕ, ◌-◌, List, ◌++◌, length, Result, Ok, Err}
 use Rattle.std.specs.Int.{w32}
+use Rattle.ccp_base.specs.Outside.{no_memory}
 use Rattle.reply_frames.specs.declared.fault.Stop.{Stop}
 use Rattle.reply_frames.specs.declared.fault.Stop.TheVariants as stops
 use Rattle.reply_frames.specs.declared.fault.FrameFault.{FrameFault}
@@ -47,7 +48,7 @@ made make (Err stop) = Err stop
 abbrev pub ReturnsReading : {X Y : Type 0} → (X → Y) → Result X Halt → Result Y Stop → Type 0
 ReturnsReading view (Ok x) read = read ≡ Ok (view x)
 ReturnsReading view (Err (halt.Stopped stop)) read = read ≡ Err stop
-ReturnsReading view (Err halt.NoMemory) read = Unit {0}
+ReturnsReading view (Err (halt.NoMemory _)) read = Unit {0}
 
 -- the parts of a code
 abbrev pub code_start_at : List ℕ → Read Start
@@ -100,7 +101,7 @@ decoded_of bytes = decoded_from bytes (found_from (length bytes) (frame_at bytes
 
 -- it is this one
 abbrev pub IsDecoded : Result Found DecodeFault → Result Found DecodeFault → Type 0
-IsDecoded result answer = (result ≢ Err NoMemory) → result ≡ answer
+IsDecoded result answer = (result ≢ Err (NoMemory no_memory)) → result ≡ answer
 
 -- a message was read
 abbrev pub IsFound : Result Found DecodeFault → Type 0
@@ -110,21 +111,21 @@ IsFound answer = (found : Found) × (answer ≡ Ok found)
 abbrev pub LacksCode : DecodeFault → Result Found DecodeFault → Type 0
 LacksCode (More needed) answer = answer ≡ Err (More needed)
 LacksCode (Bad field place) answer = answer ≡ Err (Bad field place)
-LacksCode NoMemory answer = IsFound answer
+LacksCode (NoMemory _) answer = IsFound answer
 
 -- what is wrong with a frame of which only the values of an Update or a Change are read: nothing, if it is of another
 -- kind
 abbrev pub frame_lack : FrameFault → DecodeFault
 frame_lack (faults.More needed) = More needed
 frame_lack (faults.Bad field place) = Bad field place
-frame_lack (faults.Other number) = NoMemory
+frame_lack (faults.Other number) = NoMemory no_memory
 
 -- it refuses a byte
 abbrev pub IsBad : Result Found DecodeFault → Type 0
 IsBad (Ok found) = ⊥
 IsBad (Err (More needed)) = ⊥
 IsBad (Err (Bad field place)) = Unit {0}
-IsBad (Err NoMemory) = ⊥
+IsBad (Err (NoMemory _)) = ⊥
 
 -- the bytes begin with the head of an Install, whose code takes memory
 pub record BeginsInstall (bytes : List ℕ) : Type 0 where

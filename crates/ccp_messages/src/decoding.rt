@@ -1,5 +1,6 @@
 //! Reads the message whose frame is at the front of bytes, or says why no frame is.
 ghost use Rattle.std.specs.Prelude.{◌≡◌, ℕ, length, IfOk, Ok, Err};
+ghost use Rattle.ccp_base.specs.Outside.{no_memory};
 ghost use Rattle.reply_frames.specs.declared.fault.BadKind.{BadKind};
 ghost use Rattle.reply_frames.specs.declared.outline.Version.{Version};
 ghost use Rattle.reply_frames.specs.Frames.{frame_at};
@@ -12,7 +13,7 @@ ghost use Rattle.ccp_messages.specs.Decoding.{decoded_of, IsDecoded, IsBad, Begi
 use crate::fault::{DecodeFault, Halt};
 use crate::message::Message;
 use crate::read_body::body;
-use ccp_base::Fields;
+use ccp_base::{Fields, NoMemory};
 use reply_frames::head::outline;
 use reply_frames::{FrameFault, Stop, Version, decode_fields, needed_bytes};
 use std::alloc::Global;
@@ -31,7 +32,7 @@ fn decode_fault(bytes: &[u8], stop: Stop) -> DecodeFault
 #[tactic(auto, unfolding(reply_frames::specs::Frames::frame_at))]
 fn read_message(alloc: Global, bytes: &[u8]) -> Result<(Message, Version, usize), Halt>
     ensures read { ReturnsReading (λ x. x) result (found_from (length bytes.now) (frame_at bytes.now)) }
-    ensures memory { result ≡ Err Halt.NoMemory → BeginsInstall bytes.now }
+    ensures memory { result ≡ Err (Halt.NoMemory no_memory) → BeginsInstall bytes.now }
 {
     let (head, rest) = outline(bytes)?;
     let (message, rest) = body(alloc, rest, head)?;
@@ -41,36 +42,36 @@ fn read_message(alloc: Global, bytes: &[u8]) -> Result<(Message, Version, usize)
 
 /// Why bytes give no message if there is no memory for the code of an Install: what is wrong with its frame, if anything
 /// is, since that takes no memory to say.
-fn without_code(bytes: &[u8]) -> DecodeFault
+fn without_code(bytes: &[u8], error: NoMemory) -> DecodeFault
     ensures { LacksCode result (decoded_of bytes.now) }
 {
     match decode_fields(bytes, &mut Fields::new()) {
-        Err(fault) => frame_lack(fault),
-        Ok(_) => DecodeFault::NoMemory,
+        Err(fault) => frame_lack(fault, error),
+        Ok(_) => DecodeFault::NoMemory(error),
     }
 }
 
 /// What bytes lack that gave this fault where only the values of an Update or a Change are read.
-fn frame_lack(fault: FrameFault) -> DecodeFault
+fn frame_lack(fault: FrameFault, error: NoMemory) -> DecodeFault
     ensures { result ≡ frame_lack fault }
 {
     match fault {
         FrameFault::More(needed) => DecodeFault::More(needed),
         FrameFault::Bad(field, offset) => DecodeFault::Bad(field, offset),
-        FrameFault::Other(_) => DecodeFault::NoMemory,
+        FrameFault::Other(_) => DecodeFault::NoMemory(error),
     }
 }
 
 /// As `read_message`, with its faults.
 fn decode_exactly(alloc: Global, bytes: &[u8]) -> Result<(Message, Version, usize), DecodeFault>
     ensures told { IsDecoded result (decoded_of bytes.now) }
-    ensures memory { result ≡ Err DecodeFault.NoMemory → BeginsInstall bytes.now }
-    ensures whole { result ≡ Err DecodeFault.NoMemory → IsFound (decoded_of bytes.now) }
+    ensures memory { result ≡ Err (DecodeFault.NoMemory no_memory) → BeginsInstall bytes.now }
+    ensures whole { result ≡ Err (DecodeFault.NoMemory no_memory) → IsFound (decoded_of bytes.now) }
 {
     match read_message(alloc, bytes) {
         Ok(found) => Ok(found),
         Err(Halt::Stopped(stop)) => Err(decode_fault(bytes, stop)),
-        Err(Halt::NoMemory) => Err(without_code(bytes)),
+        Err(Halt::NoMemory(error)) => Err(without_code(bytes, error)),
     }
 }
 
@@ -96,8 +97,8 @@ pub fn decode(alloc: Global, bytes: &[u8]) -> Result<(Message, Version, usize), 
         → ¬ IsFrameFront bytes.now → IsBad result }
 
     // Only the code of an Install takes memory, and of a whole one.
-    ensures memory { result ≡ Err DecodeFault.NoMemory → BeginsInstall bytes.now }
-    ensures whole { result ≡ Err DecodeFault.NoMemory
+    ensures memory { result ≡ Err (DecodeFault.NoMemory no_memory) → BeginsInstall bytes.now }
+    ensures whole { result ≡ Err (DecodeFault.NoMemory no_memory)
         → (message : Message) × (version : Version) × (used : ℕ) × Begins bytes.now message version used }
 {
     decode_exactly(alloc, bytes)

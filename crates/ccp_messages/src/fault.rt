@@ -1,7 +1,9 @@
 //! Why bytes give no message, and why the reading of a part stops: cut, bad, or out of memory.
 ghost use Rattle.std.specs.Prelude.{◌≡◌};
+ghost use Rattle.ccp_base.specs.Outside.{no_memory};
 ghost use Rattle.ccp_messages.specs.declared.fault.Halt.TheVariants as halt;
 
+use ccp_base::NoMemory;
 use reply_frames::{BadKind, Stop};
 use std::alloc::{AllocError, AllocFailed};
 
@@ -13,7 +15,7 @@ pub enum DecodeFault {
     More(usize),
     /// Not the start of any frame: the field and the offset of the first bad byte, with which no frame continues.
     Bad(BadKind, usize),
-    NoMemory,
+    NoMemory(NoMemory),
 }
 
 /// Why a part of a frame isn't read.
@@ -21,7 +23,7 @@ pub enum DecodeFault {
 pub enum Halt {
     /// The bytes end within it, or a byte is wrong.
     Stopped(Stop),
-    NoMemory,
+    NoMemory(NoMemory),
 }
 
 impl From<Stop> for Halt {
@@ -33,17 +35,17 @@ impl From<Stop> for Halt {
 }
 
 impl From<AllocError> for Halt {
-    ghost from_gives = { λ _ result. result ≡ halt.NoMemory };
+    ghost from_gives = { λ _ result. result ≡ halt.NoMemory no_memory };
 
-    fn from(_error: AllocError) -> Self {
-        Halt::NoMemory
+    fn from(error: AllocError) -> Self {
+        Halt::NoMemory(NoMemory::from(error))
     }
 }
 
 impl<T: Drop> From<AllocFailed<T>> for Halt {
-    ghost from_gives = { λ _ result. result ≡ halt.NoMemory };
+    ghost from_gives = { λ _ result. result ≡ halt.NoMemory no_memory };
 
-    fn from(_error: AllocFailed<T>) -> Self {
-        Halt::NoMemory
+    fn from(error: AllocFailed<T>) -> Self {
+        Halt::NoMemory(NoMemory::from(error))
     }
 }

@@ -1,6 +1,7 @@
 //! Messages, read from the bodies of their frames.
 
 ghost use Rattle.std.specs.Prelude.{◌≡◌, ◌≤◌, Err};
+ghost use Rattle.ccp_base.specs.Outside.{no_memory};
 ghost use Rattle.ccp_base.specs.Limits.{most_fields, most_pairs};
 ghost use Rattle.reply_frames.specs.Kinds.{most_n1};
 ghost use Rattle.reply_frames.specs.Parts.{Gives};
@@ -101,7 +102,7 @@ fn refusal(bytes: &[u8], flow: u32) -> Result<(Message, &[u8]), Stop>
 pub fn body(alloc: Global, bytes: &[u8], head: Outline) -> Result<(Message, &[u8]), Halt>
     requires { head.counts.n1 ≤ most_n1 head.kind head.version }
     ensures read { ReturnsReading (λ x. (x.0, x.1.now)) result (message_at head bytes.now) }
-    ensures memory { result ≡ Err Halt.NoMemory → head.kind ≡ FrameKind.Install }
+    ensures memory { result ≡ Err (Halt.NoMemory no_memory) → head.kind ≡ FrameKind.Install }
 {
     let first = head.counts.n1;
     match head.kind {

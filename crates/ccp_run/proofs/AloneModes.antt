@@ -5,6 +5,7 @@ use Rattle.ccp_base.specs.declared.parts.Separator.TheVariants.{LineFeed}
 use Rattle.ccp_base.specs.Limits.{most_acks, most_input_bytes}
 use Rattle.ccp_base.specs.Parts.{parts_of, without_last}
 use Rattle.std.proofs.lemmas.Bool.Decides.{leb_tells, nat_tests}
+use Rattle.ccp_base.specs.Outside.{no_memory}
 use Rattle.feed_core.proofs.FeedBegins.{no-answers}
 use Rattle.scenario_json.specs.declared.fault.SceneFault.{SceneFault}
 use Rattle.scene_members.specs.declared.mode.SceneMode.TheVariants as scene
@@ -100,7 +101,7 @@ module _ (bytes : List ℕ) where
 -- ---- the lines of a fold are refused for what they say alone
 
 abbrev IsOfLines : Result (List Ack) LineFault → Type 0
-IsOfLines result = result ≢ Err lines.NoMemory
+IsOfLines result = result ≢ Err (lines.NoMemory no_memory)
 
 of_line : (number : ℕ) (acks : List Ack) (line : AckLine) → IsOfLines (with_line number acks line)
 of_line number acks said.nothing = λ e. cc
@@ -125,7 +126,7 @@ lines_refusal (Some fault) below = Some (Program fault)
 lines_refusal None (Ok acks) = None
 lines_refusal None (Err (lines.Line n)) = Some (Line n)
 lines_refusal None (Err lines.TooMany) = Some TooManyAcks
-lines_refusal None (Err lines.NoMemory) = None
+lines_refusal None (Err (lines.NoMemory _)) = None
 
 abbrev fold_refusal : Option Cut → Option Refusal
 fold_refusal None = Some NoSeparator
@@ -156,7 +157,7 @@ module _ (bytes : List ℕ) where
   some_lines cut form e built (Ok acks) is not = inl (form, acks, record { cut = cut; at_separator = e; program = built; lines = is })
   some_lines cut form e built (Err (lines.Line n)) is not = inr (Line n, record { cut = cut; at_separator = e; form = form; program = built; refused = is })
   some_lines cut form e built (Err lines.TooMany) is not = inr (TooManyAcks, record { cut = cut; at_separator = e; form = form; program = built; refused = is })
-  some_lines cut form e built (Err lines.NoMemory) is not = absurd (not refl)
+  some_lines cut form e built (Err (lines.NoMemory _)) is not = absurd (not refl)
 
   some_program : (cut : Cut) → cut_of bytes ≡ Some cut → ((form : Form) × IsBuiltFrom cut.program form) ⊎ ((fault : BuildFault) × IsNoProgram cut.program fault) → IsInput (Alone mode.Fold) bytes ⊎ ((refusal : Refusal) × IsNoFold bytes refusal)
   some_program cut e (inl built) =

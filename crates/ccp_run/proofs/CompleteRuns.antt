@@ -80,7 +80,7 @@ module _ (task : Task) (source sink errors : StreamChange) (is_finished : Type 0
       absurd (not_refused task source bytes is ended.refusal short input (is_stream task) ended.refused)
   answered bytes is short input no_read no_write status.ReadFailed e ended = absurd (no_read ended.rose)
   answered bytes is short input no_read no_write status.WriteFailed e ended = absurd (no_write ended.rose)
-  answered bytes is short input no_read no_write status.NoMemory e ended = inr e
+  answered bytes is short input no_read no_write (status.NoMemory _) e ended = inr e
 
   no_front : (bytes : List ℕ) → source.old ≡ Some bytes → IsNoInput task bytes → (is_answered task ≡ true → Rose sink.before sink.now → ⊥) → Rose sink.before sink.now
       → (answers_early : Bool) → is_answered task ≡ answers_early → WritesAnyFront answers_early task source sink → ⊥
@@ -96,7 +96,7 @@ module _ (task : Task) (source sink errors : StreamChange) (is_finished : Type 0
   refuses bytes is other no_read no_write status.ReadFailed e ended = absurd (no_read ended.rose)
   refuses bytes is other no_read no_write status.WriteFailed e ended =
       absurd (no_front bytes is other no_write ended.rose (is_answered task) refl ended.front)
-  refuses bytes is other no_read no_write status.NoMemory e ended = inr e
+  refuses bytes is other no_read no_write (status.NoMemory _) e ended = inr e
 
   -- a run is complete
   pub complete : IsRun task source sink errors is_finished outcome → AnswersOrRefuses task source sink outcome

@@ -71,7 +71,7 @@ module _ {S : Type 0} (a : Answering S) (first before : List ℕ) (Lacks : List 
       record { bytes = f.bytes; answered = answers-first f.bytes stays f.answered; within = f.within; rose = f.rose; goes_on = f.goes_on }
   fed-first ends.WriteFailed stays f =
       record { bytes = f.bytes; taken = f.taken; within = f.within; rose = rose-late was middle now grown grows f.rose; front = prefix-after old mid new first (a.written (before ++ f.bytes)) wrote f.front }
-  fed-first ends.NoMemory stays f = record {
+  fed-first (ends.NoMemory _) stays f = record {
     bytes = f.bytes;
     front = f.front;
     rest = f.rest;

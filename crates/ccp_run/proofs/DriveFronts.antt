@@ -4,7 +4,7 @@ use Rattle.std.specs.Prelude.{IfOk, IfErr}
 use Rattle.std.proofs.lemmas.Option.{same_Some}
 use Rattle.std.proofs.lemmas.Bool.Decides.{nat_tests}
 use Rattle.ccp_base.specs.Limits.{most_input_bytes}
-use Rattle.ccp_base.specs.Outside.{Takes, IsAtEnd}
+use Rattle.ccp_base.specs.Outside.{Takes, IsAtEnd, no_memory}
 use Rattle.feed_core.specs.FeedEnds.{Stream}
 use Rattle.driven_flow.specs.declared.front.FrontFault.{FrontFault}
 use Rattle.driven_flow.specs.declared.front.FrontFault.TheVariants as fault
@@ -162,7 +162,7 @@ module _ (source : Stream) where
     rose = f.rose;
     goes_on = subst (IsOpenAt f.bytes) (sym (undivided-there f.bytes f.not_over.none)) f.not_over;
   }
-  front-stops fault.NoMemory f = record {
+  front-stops (fault.NoMemory _) f = record {
     front = f.front;
     rest = f.rest;
     taken = f.taken;
@@ -191,7 +191,7 @@ module _ (source : Stream) where
     scene-stops (stop.Refused (refusal.Frame field place)) stops = absurd stops
     scene-stops (stop.Refused (refusal.FrameCut place)) stops = absurd stops
     scene-stops stop.ReadFailed stops = absurd stops
-    scene-stops stop.NoMemory stops =
+    scene-stops (stop.NoMemory no_memory) stops =
         let head = head-of at.bytes text rest at.divided_is in
         let few = at.few in
         let short = at.short in

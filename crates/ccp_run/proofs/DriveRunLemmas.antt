@@ -1,7 +1,7 @@
 -- A run of `drive`, from how the reading of its input ended and what it then reported.
 use Rattle.std.proofs.Common.{◌≡◌, ◌≢◌, ◌≤◌, ◌⊎◌, inl, inr, ◌∙◌, ℕ, true, Some, List, [], ◌++◌, length, arith, ap, sym, refl, subst, append-nil}
 use Rattle.ccp_base.specs.Limits.{most_audit_bytes}
-use Rattle.ccp_base.specs.Outside.{Takes, IsAtEnd}
+use Rattle.ccp_base.specs.Outside.{Takes, IsAtEnd, no_memory}
 use Rattle.feed_core.specs.FeedEnds.{Stream as Frames, stream as frames}
 use Rattle.ccp_words.specs.declared.mode.Alone.TheVariants.{Drive}
 use Rattle.ccp_run.specs.Modes.{Task, Alone}
@@ -93,7 +93,7 @@ module _ (source sink errors : StreamChange) (is_finished : Type 0) (outcome : O
       ends_unwritten task source sink errors is_finished outcome f.rose
       (record { taken = f.bytes; takes = f.taken; front = f.front })
       (record { taken = f.bytes; takes = f.taken; within = f.within }) tt e
-  run_of_drive end.NoMemory f e =
+  run_of_drive (end.NoMemory no_memory) f e =
       ends_wanting task source sink errors is_finished outcome
       (record { taken = f.front ++ f.rest; takes = f.taken; within = f.within }) tt
       (record { front = f.front; rest = f.rest; later = f.later; takes = f.taken; answers = f.written; handed = f.handed; begins = f.begins; kept = f.kept }) e

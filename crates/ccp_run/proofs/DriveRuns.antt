@@ -2,7 +2,7 @@
 use Rattle.std.proofs.Common.{◌≡◌, ◌⊎◌, inl, inr, ◌∙◌, ℕ, suc, ◌+◌, ◌-◌, ◌≤◌, Some, Ok, List, [], ◌∷◌, ◌++◌, length, map, slice_index_or, arith, ap, sym, subst, refl, append_assoc, append-nil, length-append}
 use Rattle.std.specs.List.{All}
 use Rattle.ccp_base.specs.Limits.{most_audit_bytes}
-use Rattle.ccp_base.specs.Outside.{Known, Takes, IsAtEnd, Appends, AppendsPrefix, Takes-append}
+use Rattle.ccp_base.specs.Outside.{Known, Takes, IsAtEnd, Appends, AppendsPrefix, Takes-append, no_memory}
 use Rattle.feed_core.specs.declared.ending.FeedEnd.{FeedEnd}
 use Rattle.feed_core.specs.declared.ending.FeedEnd.TheVariants as ends
 use Rattle.feed_core.specs.Answering.{Answering, after}
@@ -71,7 +71,7 @@ module _ (source sink : Stream) (is_finished : Type 0) (same : sink.new ≡ sink
     rose = f.rose;
     goes_on = f.goes_on;
   }
-  drive-stops stop.NoMemory f = record {
+  drive-stops (stop.NoMemory _) f = record {
     front = f.front;
     rest = f.rest;
     later = drive_written (f.front ++ f.rest);
@@ -233,7 +233,7 @@ module _ (source mid : Known) (rb rm : ℕ) (rest : List ℕ) (opened : Opened) 
       rose = f.rose;
       front = subst (AppendsPrefix sink.old sink.new) (sym (written-is f.bytes)) f.front;
     }
-    drive-ends ends.NoMemory f =
+    drive-ends (ends.NoMemory no_memory) f =
         let head = head-of o.bytes o.text rest o.divided_is in
         let front : List ℕ = head.front ++ 10 ∷ f.front in
         let parts : o.bytes ++ f.bytes ≡ front ++ f.rest =

@@ -32,7 +32,7 @@ module _ {S : Type 0} (answer : AnswerRule S) (P : S → Type 0) (keeps : (state
           again (place + used) (answer state message version).1 (drop used bytes) (keeps state message version holds)
       on again (Err (decode.Bad field offset)) = holds
       on again (Err (decode.More needed)) = holds
-      on again (Err decode.NoMemory) = holds
+      on again (Err (decode.NoMemory _)) = holds
 
   pub keeps-frames : (limit place : ℕ) (state : S) (bytes : List ℕ) → P state → P (frames_from answer limit place state bytes).state
   unfolding frames_from

@@ -1,7 +1,7 @@
 -- The text of driven flows, from how their scenario was read and how their frames then ended.
 use Rattle.std.proofs.Common.{◌≡◌, ◌≤◌, ◌⊎◌, inl, inr, ◌∙◌, ℕ, ◌-◌, Bool, true, Some, Result, Ok, Err, List, ◌++◌, length, arith, ap, sym, subst, length-append}
 use Rattle.ccp_base.specs.Limits.{most_audit_bytes, most_cases}
-use Rattle.ccp_base.specs.Outside.{Known, TakesWithin, IsAtEnd, Takes-append}
+use Rattle.ccp_base.specs.Outside.{Known, TakesWithin, IsAtEnd, Takes-append, no_memory}
 use Rattle.ccp_words.specs.declared.mode.DriveText.{DriveText}
 use Rattle.feed_core.specs.declared.ending.FeedEnd.{FeedEnd}
 use Rattle.feed_core.specs.declared.ending.FeedEnd.TheVariants as ends
@@ -59,7 +59,7 @@ module _ (text : DriveText) (wire : Bool) where
     stops : (why : Stop) → IsDriveEnd (stream source new rb rn) sink (Unit {0}) (end_at why) → IsStreamAttempt task whole (Err why)
     stops (stop.Refused refusal) r = refuses refusal r
     stops stop.ReadFailed f = record { rose = f.rose; taken = f.bytes; takes = f.answered.taken; within = f.within; goes_on = f.goes_on }
-    stops stop.NoMemory f = record { taken = f.front ++ f.rest; takes = f.taken; within = f.within }
+    stops (stop.NoMemory _) f = record { taken = f.front ++ f.rest; takes = f.taken; within = f.within }
 
     -- the output is the text of the flows at the end of the input
     makes : (output : ModeOutput) → MakesText text wire rest opened (stream mid new rm rn) sink output → IsStreamAttempt task whole (Ok output)
@@ -89,7 +89,7 @@ module _ (text : DriveText) (wire : Bool) where
     text-made (Err stop.ReadFailed) m =
         stops stop.ReadFailed
         (subst (IsDriveEnd (stream source new rb rn) sink (Unit {0})) m.stop_is (drive-ends source mid rb rm rest opened o new rn sink (Unit {0}) m.frames.0 grown grows m.end m.frames.1))
-    text-made (Err stop.NoMemory) m =
+    text-made (Err (stop.NoMemory no_memory)) m =
         let few = m.within in
         let eaten = o.eaten_is in
         let place = o.scene.place_is in
@@ -114,9 +114,9 @@ module _ (text : DriveText) (wire : Bool) where
     pub unmade : (why : Stop) → IsHeardOut before opened.place (opening (codes_of opened.programs) opened.cases) session source sink (Err why) → IsTextMade text wire before opened source sink (Err why)
     unmade (stop.Refused refusal) h = record { end = h.0; stop_is = h.1; frames = (session, h.2) }
     unmade stop.ReadFailed h = record { end = h.0; stop_is = h.1; frames = (session, h.2) }
-    unmade stop.NoMemory h = go h.0 h.1 h.2
+    unmade (stop.NoMemory _) h = go h.0 h.1 h.2
       where
-        go : (end : FeedEnd) → end_in end ≡ drive.NoMemory → IsSessionEnd before opened.place (opening (codes_of opened.programs) opened.cases) session source sink (Unit {0}) end
+        go : (end : FeedEnd) → end_in end ≡ drive.NoMemory no_memory → IsSessionEnd before opened.place (opening (codes_of opened.programs) opened.cases) session source sink (Unit {0}) end
             → TakesWithin (most_audit_bytes - opened.place - length before) source.old source.new
         go ends.Whole is f = let bad : ⊥ = cc in absurd bad
         go (ends.Bad field place) is f = let bad : ⊥ = cc in absurd bad
@@ -124,7 +124,7 @@ module _ (text : DriveText) (wire : Bool) where
         go ends.TooLong is f = let bad : ⊥ = cc in absurd bad
         go ends.ReadFailed is f = let bad : ⊥ = cc in absurd bad
         go ends.WriteFailed is f = let bad : ⊥ = cc in absurd bad
-        go ends.NoMemory is f =
+        go (ends.NoMemory no_memory) is f =
             let few = f.within in
             record { taken = f.bytes; takes = f.taken; within = omega (arith, few, ap length f.parts, length-append before f.bytes) }
 

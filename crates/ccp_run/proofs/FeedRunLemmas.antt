@@ -1,7 +1,7 @@
 -- A run of `feed`, from how its loop ended and what it then reported.
 use Rattle.std.proofs.Common.{◌≡◌, ◌≢◌, ◌⊎◌, inl, inr, ◌∙◌, ℕ, true, List, [], ◌++◌, arith, ap, sym, refl, subst, append-nil}
 use Rattle.ccp_base.specs.Limits.{most_input_bytes}
-use Rattle.ccp_base.specs.Outside.{Takes, TakesWithin}
+use Rattle.ccp_base.specs.Outside.{Takes, TakesWithin, no_memory}
 use Rattle.feed_core.specs.declared.ending.FeedEnd.{FeedEnd}
 use Rattle.feed_core.specs.declared.ending.FeedEnd.TheVariants as ends
 use Rattle.feed_core.specs.Answering.{feeding}
@@ -93,7 +93,7 @@ module _ (source sink errors : StreamChange) (is_finished : Type 0) (outcome : O
       ends_unwritten (Alone Feed) source sink errors is_finished outcome fed.rose
       (record { taken = fed.bytes; takes = fed.taken; front = fed.front })
       (record { taken = fed.bytes; takes = fed.taken; within = fed.within }) tt e
-  run_of_feed ends.NoMemory fed e =
+  run_of_feed (ends.NoMemory no_memory) fed e =
       let takes : Takes source.old source.new (fed.front ++ fed.rest) = subst (Takes source.old source.new) fed.parts fed.taken in
       ends_wanting (Alone Feed) source sink errors is_finished outcome
       (record { taken = fed.front ++ fed.rest; takes = takes; within = fed.within }) tt

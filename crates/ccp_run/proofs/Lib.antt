@@ -22,6 +22,7 @@ pub mod LiveLemmas
 pub mod TimelineLemmas
 pub mod AuditLemmas
 mod AcksBackLemmas
+mod FeedLawLemmas
 mod AlikeLemmas
 pub mod PlannedLemmas
 mod RowLaw

@@ -1,5 +1,5 @@
 -- The books of a live run show what their words mean over the sources of the programs.
-use Rattle.std.proofs.Common.{◌≡◌, ◌∙◌, ℕ, suc, List, [], ◌∷◌, ◌++◌, map, ap, sym, subst, refl, arith}
+use Rattle.std.proofs.Common.{◌≡◌, ◌∙◌, ℕ, suc, ◌+◌, List, [], ◌∷◌, ◌++◌, map, ap, sym, subst, refl, arith}
 use Rattle.std.specs.List.{All}
 use Rattle.std.proofs.lemmas.List.Elements.{All-cons, All-nil}
 use Rattle.ccp_base.specs.declared.exchange.Notice.{Notice}
@@ -18,6 +18,8 @@ use Rattle.flow_core.specs.Readings.{Flow, over_codes}
 use Rattle.flow_core.specs.Words.{world}
 use Rattle.flow_core.specs.World.{Failure, Content, of_report, of_failure, Answered, World, notice_of, told_as, track_of}
 use Rattle.flow_core.proofs.LiftLemmas.{link-lift, legal-lift, complete-lift}
+use Rattle.scene_core.specs.CasePlans.{AreFlowsFrom}
+use Rattle.flow_table.specs.NumberedCases.{AreNumbered}
 use Rattle.flow_table.specs.WholeBooks.{IsWholeBook}
 use Rattle.agent_loop.specs.LiveBooks.{AreBooksOf}
 use Rattle.campaign_gate.proofs.LiftedRowLemmas.{track-lifts}
@@ -27,6 +29,13 @@ use Rattle.scenario_json.specs.Cases.{IsCoded, AreNumberedFrom}
 use Rattle.reg_compiler.specs.Sources.{sources_of}
 use Rattle.ccp_run.specs.Live.{IsRightBook, book_cases}
 use Rattle.ccp_run.proofs.CodedLemmas.{simulated}
+
+-- ---- the flow numbers of the cases, as a table of flows requires them
+
+pub flows_numbered : (flow : ℕ) (cases : List Case) → AreFlowsFrom flow cases
+    → AreNumbered (λ (case : Case). case.flow) flow cases
+flows_numbered flow [] flows = flows
+flows_numbered flow (case ∷ rest) flows = (flows.0, flows_numbered (flow + 1) rest flows.1)
 
 -- ---- what a book over codes shows, with the places of instructions
 

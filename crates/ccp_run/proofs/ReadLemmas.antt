@@ -1,5 +1,6 @@
 -- The result of a task, from how its source was read and what the bytes give.
 use Rattle.std.proofs.Common.{◌≡◌, ℕ, Bool, true, false, Result, Ok, Err, List, inl, inr}
+use Rattle.ccp_base.specs.Outside.{no_memory}
 use Rattle.ccp_run.specs.declared.outcome.ModeOutput.{ModeOutput}
 use Rattle.ccp_run.specs.declared.stop.Stop.{Stop}
 use Rattle.ccp_run.specs.declared.stop.Stop.TheVariants as stop
@@ -16,7 +17,7 @@ has_input false source bytes reads r = let bad : ⊥ = cc in absurd bad
 pub not_read : (task : Task) (source : StreamChange) (why : Stop) → is_read task ≡ true → IsReadWithin (limit_in task) source (Err why) → IsAttempt task source (Err why)
 not_read task source (stop.Refused refusal) reads r = inl (record { reads = reads; over = r.0; most = r.1; cause = r.2 })
 not_read task source stop.ReadFailed reads r = record { reads = reads; rose = r.0; within = r.1 }
-not_read task source stop.NoMemory reads r = record { left = is_left (is_read task) source reads; within = r }
+not_read task source (stop.NoMemory _) reads r = record { left = is_left (is_read task) source reads; within = r }
 
 -- the source was read to its end
 pub answered : (task : Task) (source : StreamChange) (bytes : List ℕ) (made : Result ModeOutput Stop) → is_read task ≡ true
@@ -25,5 +26,5 @@ answered task source bytes (Ok output) reads r made = record { bytes = bytes; re
 answered task source bytes (Err (stop.Refused refusal)) reads r made =
     inr (record { bytes = bytes; read = has_input (is_read task) source bytes reads r.0; short = r.1; cause = made })
 answered task source bytes (Err stop.ReadFailed) reads r made = absurd made
-answered task source bytes (Err stop.NoMemory) reads r made =
+answered task source bytes (Err (stop.NoMemory no_memory)) reads r made =
     record { left = is_left (is_read task) source reads; within = record { taken = bytes; takes = r.0.taken; within = r.1 } }

@@ -1,6 +1,6 @@
 -- A run's promises, from its mode's outcome and from how it then ended.
 use Rattle.std.proofs.Common.{◌≡◌, ◌≢◌, ◌≤◌, ◌⊎◌, inl, inr, ◌∙◌, ℕ, zero, suc, ◌+◌, Bool, true, false, subst, Some, None, Result, Ok, Err, List, [], length, arith, ap, sym, refl, append-nil}
-use Rattle.ccp_base.specs.Outside.{Known, Rose, Takes, TakesWithin, Appends}
+use Rattle.ccp_base.specs.Outside.{Known, Rose, Takes, TakesWithin, Appends, no_memory}
 use Rattle.feed_core.specs.FeedEnds.{AreHandedOn}
 use Rattle.ccp_run.specs.declared.outcome.ModeOutput.{ModeOutput}
 use Rattle.ccp_run.specs.declared.outcome.Outcome.{Outcome}
@@ -63,12 +63,12 @@ is_three (suc (suc (suc (suc n)))) = inr (λ e. omega (arith, e))
 
 module _ (task : Task) (source sink errors : StreamChange) (is_finished : Type 0) (outcome : Outcome) where
   -- out of memory, and these are the answers
-  pub ends_wanting : TakesWithin (limit_of task) source.old source.new → IsLeft (is_read task) source → WritesSomeAnswers task source sink is_finished → Ends errors outcome status.NoMemory memory_line
+  pub ends_wanting : TakesWithin (limit_of task) source.old source.new → IsLeft (is_read task) source → WritesSomeAnswers task source sink is_finished → Ends errors outcome (status.NoMemory no_memory) memory_line
       → IsRun task source sink errors is_finished outcome
   ends_wanting few left some e = record {
     most = one_more (limit_of task) source.old source.new few;
     left = left;
-    end = status.NoMemory;
+    end = (status.NoMemory no_memory);
     numbered = e.status;
     ended = record { within = few; answers = some; ends = e };
   }
@@ -124,14 +124,14 @@ module _ (task : Task) (source sink errors : StreamChange) (is_finished : Type 0
   not_words_refused status.InputRefused is ended at = omega (arith, is, at)
   not_words_refused status.ReadFailed is ended at = omega (arith, is, at)
   not_words_refused status.WriteFailed is ended at = omega (arith, is, at)
-  not_words_refused status.NoMemory is ended at = omega (arith, is, at)
+  not_words_refused (status.NoMemory _) is ended at = omega (arith, is, at)
 
   -- a run of a task never ends as one whose words are refused
   pub never_words_refused : IsRun task source sink errors is_finished outcome → outcome.status ≡ status_number status.WordsRefused → ⊥
   never_words_refused run at = not_words_refused run.end run.numbered run.ended at
 
   -- memory was wanted before anything was read
-  pub wants_at_once : IsUntouched source → sink.new ≡ sink.old → Ends errors outcome status.NoMemory memory_line → IsRun task source sink errors is_finished outcome
+  pub wants_at_once : IsUntouched source → sink.new ≡ sink.old → Ends errors outcome (status.NoMemory no_memory) memory_line → IsRun task source sink errors is_finished outcome
   wants_at_once same quiet e =
       ends_wanting (untouched_within (limit_of task) source.old source.new same.bytes) (left_alone (is_read task) source same)
       (record {
@@ -185,7 +185,7 @@ module _ (task : Task) (quiet : is_answered task ≡ false) (source sink errors 
       (whole_front (record { output = output; made = made; front = failed.front }))
       (within_of task source made.bytes (is_read task) made.read made.short) (left_of source made.bytes (is_read task) made.read) failed.ends
 
-  wants_memory : StopsWithoutMemory task source → sink.new ≡ sink.old → Ends errors outcome status.NoMemory memory_line → IsRun task source sink errors is_finished outcome
+  wants_memory : StopsWithoutMemory task source → sink.new ≡ sink.old → Ends errors outcome (status.NoMemory no_memory) memory_line → IsRun task source sink errors is_finished outcome
   wants_memory wants same e = ends_wanting task source sink errors is_finished outcome wants.within wants.left (some_answers wants.within same) e
 
 -- if the mode reads its source to the end before it writes
@@ -230,14 +230,14 @@ module _ (task : Task) (plain : is_stream task ≡ false) (source sink errors : 
   run_of (Ok output) attempt ending = written_or_not task quiet source sink errors is_finished outcome output attempt ending (is_zero outcome.status)
   run_of (Err (stop.Refused refusal)) attempt ending = refused_or_not refusal attempt ending.0 ending.1 (is_three outcome.status)
   run_of (Err stop.ReadFailed) attempt ending = read_failed attempt ending.0 ending.1
-  run_of (Err stop.NoMemory) attempt ending = wants_memory task quiet source sink errors is_finished outcome attempt ending.0 ending.1
+  run_of (Err (stop.NoMemory _)) attempt ending = wants_memory task quiet source sink errors is_finished outcome attempt ending.0 ending.1
 
 -- if the mode judges its input as it comes, and then writes
 module _ (task : Task) (quiet : is_answered task ≡ false) (reads : is_read task ≡ true) (source sink errors : StreamChange) (is_finished : Type 0) (outcome : Outcome) where
   left : IsLeft (is_read task) source
   left = is_left (is_read task) source reads
 
-  stream_wants : TakesWithin (limit_of task) source.old source.new → sink.new ≡ sink.old → Ends errors outcome status.NoMemory memory_line → IsRun task source sink errors is_finished outcome
+  stream_wants : TakesWithin (limit_of task) source.old source.new → sink.new ≡ sink.old → Ends errors outcome (status.NoMemory no_memory) memory_line → IsRun task source sink errors is_finished outcome
   stream_wants few same e = wants_memory task quiet source sink errors is_finished outcome (record { left = left; within = few }) same e
 
   stream_told : (refusal : Refusal) → RefusesStream task source refusal → sink.new ≡ sink.old → Ends errors outcome status.InputRefused (refusal_line refusal) → IsRun task source sink errors is_finished outcome
@@ -268,4 +268,4 @@ module _ (task : Task) (quiet : is_answered task ≡ false) (reads : is_read tas
         ends = ending.1;
       })
       left
-  run_of_stream (Err stop.NoMemory) attempt ending = stream_wants attempt ending.0 ending.1
+  run_of_stream (Err (stop.NoMemory _)) attempt ending = stream_wants attempt ending.0 ending.1

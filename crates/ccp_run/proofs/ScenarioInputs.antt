@@ -1,5 +1,6 @@
 -- Each text is a scenario's, or has one first refusal; so a mode whose inputs are scenarios has what the theorem asks of it.
 use Rattle.std.proofs.Common.{◌≡◌, ◌≢◌, ◌⊎◌, inl, inr, ℕ, List, Option, Some, None, Result, Ok, Err, ap, sym, subst, refl}
+use Rattle.ccp_base.specs.Outside.{no_memory}
 use Rattle.reg_compiler.specs.declared.built.Built.{Built}
 use Rattle.flow_core.specs.declared.case.Case.{Case}
 use Rattle.scene_members.specs.declared.mode.SceneMode.{SceneMode}
@@ -17,7 +18,7 @@ use Rattle.ccp_run.proofs.ModeLaws.{IsMode, reads_to_end, settled_by}
 
 -- ---- why there is no scenario
 
-stops_of : (has : SceneFault → Type 0) (fault : SceneFault) → (fault ≢ scene.NoMemory → has fault) → StopsFor has (scene_stop fault)
+stops_of : (has : SceneFault → Type 0) (fault : SceneFault) → (fault ≢ scene.NoMemory no_memory → has fault) → StopsFor has (scene_stop fault)
 stops_of has scene.Json h = h (λ e. cc)
 stops_of has (scene.Missing path) h = h (λ e. cc)
 stops_of has (scene.Wrong path) h = h (λ e. cc)
@@ -25,10 +26,10 @@ stops_of has (scene.Range path) h = h (λ e. cc)
 stops_of has (scene.Program name fault) h = h (λ e. cc)
 stops_of has (scene.Trace name fault) h = h (λ e. cc)
 stops_of has scene.Totals h = h (λ e. cc)
-stops_of has scene.NoMemory h = tt
+stops_of has (scene.NoMemory _) h = tt
 
 -- a mode stops for the fault of its scenario
-pub scene_stops : (has : SceneFault → Type 0) (fault : SceneFault) (stop : Stop) → stop ≡ scene_stop fault → (fault ≢ scene.NoMemory → has fault) → StopsFor has stop
+pub scene_stops : (has : SceneFault → Type 0) (fault : SceneFault) (stop : Stop) → stop ≡ scene_stop fault → (fault ≢ scene.NoMemory no_memory → has fault) → StopsFor has stop
 scene_stops has fault stop is h = subst (λ (s : Stop). StopsFor has s) (sym is) (stops_of has fault h)
 
 -- ---- modes

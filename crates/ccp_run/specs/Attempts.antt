@@ -16,7 +16,7 @@ abbrev pub IsOutputOrRefusal : Task → List ℕ → Result ModeOutput Stop → 
 IsOutputOrRefusal task bytes (Ok output) = IsMade task bytes output
 IsOutputOrRefusal task bytes (Err (stop.Refused refusal)) = IsInputRefusal task bytes refusal
 IsOutputOrRefusal task bytes (Err stop.ReadFailed) = ⊥
-IsOutputOrRefusal task bytes (Err stop.NoMemory) = Unit {0}
+IsOutputOrRefusal task bytes (Err (stop.NoMemory _)) = Unit {0}
 
 -- the input was read to its end, is within the limit, and the mode makes this of it
 pub record MakesOutput (task : Task) (source : StreamChange) (output : ModeOutput) : Type 0 where
@@ -73,10 +73,10 @@ IsReadWithin limit source (Err (stop.Refused refusal)) =
     × (refusal ≡ TooLong limit)
 IsReadWithin limit source (Err stop.ReadFailed) =
     Rose source.before source.now × TakesWithin (most_bytes limit) source.old source.new
-IsReadWithin limit source (Err stop.NoMemory) = TakesWithin (most_bytes limit) source.old source.new
+IsReadWithin limit source (Err (stop.NoMemory _)) = TakesWithin (most_bytes limit) source.old source.new
 
 abbrev pub IsAttempt : Task → StreamChange → Result ModeOutput Stop → Type 0
 IsAttempt task source (Ok output) = MakesOutput task source output
 IsAttempt task source (Err (stop.Refused refusal)) = RefusesInput task source refusal
 IsAttempt task source (Err stop.ReadFailed) = FailsToRead task source
-IsAttempt task source (Err stop.NoMemory) = StopsWithoutMemory task source
+IsAttempt task source (Err (stop.NoMemory _)) = StopsWithoutMemory task source

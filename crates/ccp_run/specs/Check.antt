@@ -41,4 +41,4 @@ check_rules = reads_whole Input IsProgramText IsCheckOutput IsNoCheck
 abbrev pub StopsProgram : List ℕ → Stop → Type 0
 StopsProgram text (stop.Refused refusal) = IsNoCheck text refusal
 StopsProgram text stop.ReadFailed = ⊥
-StopsProgram text stop.NoMemory = Unit {0}
+StopsProgram text (stop.NoMemory _) = Unit {0}

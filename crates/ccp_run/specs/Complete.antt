@@ -1,6 +1,6 @@
 -- What decides whether a run refuses its input, if the source shows its bytes.
 use Rattle.std.specs.Prelude.{◌≡◌, ◌≤◌, ◌<◌, ◌⊎◌, List, ℕ, true, Some, length}
-use Rattle.ccp_base.specs.Outside.{Rose}
+use Rattle.ccp_base.specs.Outside.{Rose, no_memory}
 use Rattle.ccp_run.specs.declared.outcome.Outcome.{Outcome}
 use Rattle.ccp_run.specs.declared.refusal.Refusal.{Refusal}
 use Rattle.ccp_run.specs.declared.status.Status.{Status}
@@ -12,7 +12,7 @@ use Rattle.ccp_run.specs.Streams.{StreamChange}
 
 -- the run ended so, or out of memory
 abbrev pub EndsAs : Status → Outcome → Type 0
-EndsAs end outcome = (outcome.status ≡ status_number end) ⊎ (outcome.status ≡ status_number status.NoMemory)
+EndsAs end outcome = (outcome.status ≡ status_number end) ⊎ (outcome.status ≡ status_number (status.NoMemory no_memory))
 
 -- bytes are past the limit, or have a first refusal
 abbrev pub IsNoInput : Task → List ℕ → Type 0

@@ -1,7 +1,7 @@
 -- How the reading of an input of `drive` ends, and what was taken and written then.
 use Rattle.std.specs.Prelude.{◌≡◌, ◌⊎◌, ℕ, ◌+◌, ◌≤◌, ◌<◌, Some, Result, Ok, Err, List, [], ◌++◌, length, map}
 use Rattle.ccp_base.specs.Limits.{most_audit_bytes, most_flows, most_frame_bytes, most_input_bytes}
-use Rattle.ccp_base.specs.Outside.{Known, Rose, Takes, IsAtEnd, Appends, AppendsPrefix}
+use Rattle.ccp_base.specs.Outside.{Known, Rose, Takes, IsAtEnd, Appends, AppendsPrefix, no_memory}
 use Rattle.ccp_messages.specs.declared.message.Message.{Message}
 use Rattle.feed_core.specs.declared.ending.FeedEnd.{FeedEnd}
 use Rattle.feed_core.specs.declared.ending.FeedEnd.TheVariants as ends
@@ -107,7 +107,7 @@ IsDriveEnd source sink is_finished end.Whole = EndsDrive source sink is_finished
 IsDriveEnd source sink is_finished (end.Refused refusal) = RefusesDrive source sink is_finished refusal
 IsDriveEnd source sink is_finished end.ReadFailed = FailsToReadDrive source sink is_finished
 IsDriveEnd source sink is_finished end.WriteFailed = FailsToWriteDrive source sink
-IsDriveEnd source sink is_finished end.NoMemory = LacksMemoryToDrive source sink is_finished
+IsDriveEnd source sink is_finished (end.NoMemory _) = LacksMemoryToDrive source sink is_finished
 
 -- how each end is reported
 abbrev pub ReportsDrive : StreamChange → Outcome → DriveEnd → Type 0
@@ -115,7 +115,7 @@ ReportsDrive errors outcome end.Whole = EndsWhole errors outcome
 ReportsDrive errors outcome (end.Refused refusal) = Refuses errors outcome refusal
 ReportsDrive errors outcome end.ReadFailed = Ends errors outcome status.ReadFailed read_line
 ReportsDrive errors outcome end.WriteFailed = Ends errors outcome status.WriteFailed write_line
-ReportsDrive errors outcome end.NoMemory = Ends errors outcome status.NoMemory memory_line
+ReportsDrive errors outcome (end.NoMemory _) = Ends errors outcome (status.NoMemory no_memory) memory_line
 
 -- ---- its scenario
 
@@ -174,13 +174,13 @@ abbrev pub front_stop : FrontFault → Stop
 front_stop fault.TooLong = stop.Refused (TooLong Input)
 front_stop fault.NoSeparator = stop.Refused NoSeparator
 front_stop fault.ReadFailed = stop.ReadFailed
-front_stop fault.NoMemory = stop.NoMemory
+front_stop (fault.NoMemory _) = stop.NoMemory no_memory
 
 -- why no scenario was read
 abbrev pub StopsOpening : Stream → Stop → Type 0
 StopsOpening source (stop.Refused refusal) = RefusesOpening source refusal
 StopsOpening source stop.ReadFailed = FailsToOpen source
-StopsOpening source stop.NoMemory = LacksMemoryToOpen source
+StopsOpening source (stop.NoMemory _) = LacksMemoryToOpen source
 
 abbrev pub IsOpened : Stream → List ℕ → Result Opened Stop → Type 0
 IsOpened source rest (Ok opened) = OpensDrive source rest opened
@@ -190,7 +190,7 @@ IsOpened source rest (Err why) = StopsOpening source why
 abbrev pub end_at : Stop → DriveEnd
 end_at (stop.Refused refusal) = end.Refused refusal
 end_at stop.ReadFailed = end.ReadFailed
-end_at stop.NoMemory = end.NoMemory
+end_at (stop.NoMemory _) = end.NoMemory no_memory
 
 -- ---- its frames
 
@@ -202,7 +202,7 @@ end_in (ends.Cut place) = end.Refused (FrameCut place)
 end_in ends.TooLong = end.Refused (TooLong Audit)
 end_in ends.ReadFailed = end.ReadFailed
 end_in ends.WriteFailed = end.WriteFailed
-end_in ends.NoMemory = end.NoMemory
+end_in (ends.NoMemory _) = end.NoMemory no_memory
 
 -- how the frames of a session end that begin at a place of the input, of which the first bytes were read before
 abbrev pub IsSessionEnd : (before : List ℕ) (place : ℕ) (begin session : SessionState) → Stream → Stream → Type 0

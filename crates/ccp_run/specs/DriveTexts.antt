@@ -2,7 +2,7 @@
 use Rattle.std.specs.Prelude.{◌≡◌, ◌⊎◌, ℕ, ◌+◌, ◌-◌, ◌≤◌, Bool, Result, Ok, Err, List, [], length, map}
 use Rattle.std.specs.List.{All}
 use Rattle.ccp_base.specs.Limits.{most_audit_bytes}
-use Rattle.ccp_base.specs.Outside.{Known, Rose, Takes, TakesWithin}
+use Rattle.ccp_base.specs.Outside.{Known, Rose, Takes, TakesWithin, no_memory}
 use Rattle.ccp_words.specs.declared.mode.DriveText.{DriveText}
 use Rattle.reg_compiler.specs.declared.built.Built.{Built}
 use Rattle.driven_flow.specs.Driven.{DrivenState, codes_of}
@@ -61,7 +61,7 @@ abbrev pub IsStreamAttempt : Task → StreamChange → Result ModeOutput Stop �
 IsStreamAttempt task source (Ok output) = MakesOutput task source output
 IsStreamAttempt task source (Err (stop.Refused refusal)) = RefusesStream task source refusal
 IsStreamAttempt task source (Err stop.ReadFailed) = FailsToReadStream task source
-IsStreamAttempt task source (Err stop.NoMemory) = TakesWithin (limit_of task) source.old source.new
+IsStreamAttempt task source (Err (stop.NoMemory _)) = TakesWithin (limit_of task) source.old source.new
 
 -- ---- its frames
 
@@ -96,6 +96,6 @@ pub record StopsFrames (before : List ℕ) (opened : Opened) (source sink : Stre
 abbrev pub IsTextMade : DriveText → Bool → (before : List ℕ) → Opened → Stream → Stream → Result ModeOutput Stop
     → Type 0
 IsTextMade text wire before opened source sink (Ok output) = MakesText text wire before opened source sink output
-IsTextMade text wire before opened source sink (Err stop.NoMemory) =
+IsTextMade text wire before opened source sink (Err (stop.NoMemory no_memory)) =
     TakesWithin (most_audit_bytes - opened.place - length before) source.old source.new
 IsTextMade text wire before opened source sink (Err why) = StopsFrames before opened source sink why

@@ -1,6 +1,6 @@
 -- How a run ends once its output is made, or once it is known that there is none.
 use Rattle.std.specs.Prelude.{◌≡◌, ◌≢◌, ℕ, Result, Ok, Err, List, []}
-use Rattle.ccp_base.specs.Outside.{Rose, Appends, AppendsPrefix}
+use Rattle.ccp_base.specs.Outside.{Rose, Appends, AppendsPrefix, no_memory}
 use Rattle.ccp_run.specs.declared.outcome.ModeOutput.{ModeOutput}
 use Rattle.ccp_run.specs.declared.outcome.Outcome.{Outcome}
 use Rattle.ccp_run.specs.declared.refusal.Limit.{Limit}
@@ -48,7 +48,7 @@ pub record Writes (sink errors : StreamChange) (is_finished : Type 0) (outcome :
 pub record Refuses (errors : StreamChange) (outcome : Outcome) (refusal : Refusal) : Type 0 where
   pub told : outcome.status ≡ status_number status.InputRefused
       → Ends errors outcome status.InputRefused (refusal_line refusal)
-  pub failed : outcome.status ≢ status_number status.InputRefused → Ends errors outcome status.NoMemory memory_line
+  pub failed : outcome.status ≢ status_number status.InputRefused → Ends errors outcome (status.NoMemory no_memory) memory_line
   pub too_long : (limit : Limit) → refusal ≡ TooLong limit → outcome.status ≡ status_number status.InputRefused
 
 -- how a run with this outcome ends; if there is no output the sink is as it was
@@ -58,5 +58,5 @@ IsEnding sink errors is_finished outcome (Err (stop.Refused refusal)) =
     (sink.new ≡ sink.old) × Refuses errors outcome refusal
 IsEnding sink errors is_finished outcome (Err stop.ReadFailed) =
     (sink.new ≡ sink.old) × Ends errors outcome status.ReadFailed read_line
-IsEnding sink errors is_finished outcome (Err stop.NoMemory) =
-    (sink.new ≡ sink.old) × Ends errors outcome status.NoMemory memory_line
+IsEnding sink errors is_finished outcome (Err (stop.NoMemory no_memory)) =
+    (sink.new ≡ sink.old) × Ends errors outcome (status.NoMemory no_memory) memory_line

@@ -1,5 +1,6 @@
 -- How a run of `feed` ends once its loop has ended.
 use Rattle.std.specs.Prelude.{◌≡◌, []}
+use Rattle.ccp_base.specs.Outside.{no_memory}
 use Rattle.feed_core.specs.declared.ending.FeedEnd.{FeedEnd}
 use Rattle.feed_core.specs.declared.ending.FeedEnd.TheVariants as ends
 use Rattle.ccp_run.specs.declared.outcome.Outcome.{Outcome}
@@ -26,4 +27,4 @@ EndsFeed errors outcome (ends.Cut place) = Refuses errors outcome (FrameCut plac
 EndsFeed errors outcome ends.TooLong = Refuses errors outcome (TooLong Input)
 EndsFeed errors outcome ends.ReadFailed = Ends errors outcome status.ReadFailed read_line
 EndsFeed errors outcome ends.WriteFailed = Ends errors outcome status.WriteFailed write_line
-EndsFeed errors outcome ends.NoMemory = Ends errors outcome status.NoMemory memory_line
+EndsFeed errors outcome (ends.NoMemory _) = Ends errors outcome (status.NoMemory no_memory) memory_line

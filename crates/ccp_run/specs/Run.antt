@@ -1,7 +1,7 @@
 -- What a run promises: the theorem of every task.
 use Rattle.std.specs.Prelude.{◌≡◌, ◌≢◌, ◌≤◌, ℕ, ◌+◌, Bool, true, false, List, ◌++◌, length}
 use Rattle.ccp_base.specs.Limits.{most_frame_bytes}
-use Rattle.ccp_base.specs.Outside.{Rose, Takes, TakesWithin, Appends, AppendsPrefix}
+use Rattle.ccp_base.specs.Outside.{Rose, Takes, TakesWithin, Appends, AppendsPrefix, no_memory}
 use Rattle.feed_core.specs.FeedEnds.{AreHandedOn}
 use Rattle.ccp_run.specs.declared.outcome.ModeOutput.{ModeOutput}
 use Rattle.ccp_run.specs.declared.outcome.Outcome.{Outcome}
@@ -97,7 +97,7 @@ pub record IsOutOfMemory (task : Task) (source sink errors : StreamChange) (is_f
     (outcome : Outcome) : Type 0 where
   pub within : TakesWithin (limit_of task) source.old source.new
   pub answers : WritesSomeAnswers task source sink is_finished
-  pub ends : Ends errors outcome status.NoMemory memory_line
+  pub ends : Ends errors outcome (status.NoMemory no_memory) memory_line
 
 -- what a run of a task did that ended with this status; it never ends as one whose words are refused
 abbrev pub EndsWith : Status → Task → StreamChange → StreamChange → StreamChange → Type 0 → Outcome → Type 0
@@ -108,7 +108,7 @@ EndsWith status.InputRefused task source sink errors is_finished outcome =
 EndsWith status.ReadFailed task source sink errors is_finished outcome =
     IsReadFailed task source sink errors is_finished outcome
 EndsWith status.WriteFailed task source sink errors is_finished outcome = IsWriteFailed task source sink errors outcome
-EndsWith status.NoMemory task source sink errors is_finished outcome =
+EndsWith (status.NoMemory no_memory) task source sink errors is_finished outcome =
     IsOutOfMemory task source sink errors is_finished outcome
 
 -- ---- every run
@@ -128,5 +128,5 @@ pub record IsRun (task : Task) (source sink errors : StreamChange) (is_finished 
 pub record IsUnasked (source sink errors : StreamChange) (outcome : Outcome) : Type 0 where
   pub unread : IsUntouched source
   pub unwritten : IsUntouched sink
-  pub told : outcome.status ≢ status_number status.NoMemory → Ends errors outcome status.WordsRefused words_line
-  pub told_memory : outcome.status ≡ status_number status.NoMemory → Ends errors outcome status.NoMemory memory_line
+  pub told : outcome.status ≢ status_number (status.NoMemory no_memory) → Ends errors outcome status.WordsRefused words_line
+  pub told_memory : outcome.status ≡ status_number (status.NoMemory no_memory) → Ends errors outcome (status.NoMemory no_memory) memory_line

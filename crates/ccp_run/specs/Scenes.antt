@@ -1,6 +1,7 @@
 -- The inputs of the modes that run scenarios, and what a text that is none is refused for.
 use Rattle.std.specs.Prelude.{◌≡◌, ℕ, Ok, Err, List, map}
 use Rattle.std.specs.List.{All}
+use Rattle.ccp_base.specs.Outside.{no_memory}
 use Rattle.flow_core.specs.declared.case.Case.{Case}
 use Rattle.reg_compiler.specs.declared.built.Built.{Built}
 use Rattle.scene_members.specs.declared.mode.SceneMode.{SceneMode}
@@ -42,11 +43,11 @@ IsOfScene has _ = ⊥
 abbrev pub StopsFor : (SceneFault → Type 0) → Stop → Type 0
 StopsFor has (stop.Refused refusal) = IsOfScene has refusal
 StopsFor has stop.ReadFailed = ⊥
-StopsFor has stop.NoMemory = Unit {0}
+StopsFor has (stop.NoMemory _) = Unit {0}
 
 -- why a mode has no output, if its text is no scenario for this fault
 abbrev pub scene_stop : SceneFault → Stop
-scene_stop scene.NoMemory = stop.NoMemory
+scene_stop (scene.NoMemory _) = stop.NoMemory no_memory
 scene_stop fault = stop.Refused (refusal.Scene fault)
 
 -- bytes are no scenario's text, and this is the first fault

@@ -9,7 +9,7 @@ status_number status.WordsRefused = 2
 status_number status.InputRefused = 3
 status_number status.ReadFailed = 4
 status_number status.WriteFailed = 5
-status_number status.NoMemory = 6
+status_number (status.NoMemory _) = 6
 
 abbrev pub words_line : List ℕ
 words_line = codes "ccp: words refused\n"

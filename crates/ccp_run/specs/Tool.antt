@@ -1,5 +1,6 @@
 -- What the whole tool promises on words.
 use Rattle.std.specs.Prelude.{◌≡◌, ◌≢◌, ◌↔◌, ℕ, true, false, Some, IsSome, List}
+use Rattle.ccp_base.specs.Outside.{no_memory}
 use Rattle.ccp_words.specs.declared.words.Asked.{Asked}
 use Rattle.ccp_words.specs.Words.{are_accepted, asked_in}
 use Rattle.ccp_run.specs.declared.outcome.Outcome.{Outcome}
@@ -13,11 +14,11 @@ use Rattle.ccp_run.specs.Streams.{StreamChange}
 pub record DoesWords (given : List (List ℕ)) (source sink errors : StreamChange) (is_finished : Type 0)
     (outcome : Outcome) : Type 0 where
   -- status 2 comes exactly if the words aren't accepted; then nothing is read or written
-  pub words : outcome.status ≢ status_number status.NoMemory
+  pub words : outcome.status ≢ status_number (status.NoMemory no_memory)
       → (outcome.status ≡ status_number status.WordsRefused) ↔ (are_accepted given ≡ false)
   pub unasked : are_accepted given ≡ false → IsUnasked source sink errors outcome
   -- else it is a run of the mode that they ask for
-  pub asks : outcome.status ≢ status_number status.WordsRefused → outcome.status ≢ status_number status.NoMemory
+  pub asks : outcome.status ≢ status_number status.WordsRefused → outcome.status ≢ status_number (status.NoMemory no_memory)
       → IsSome (asked_in given)
   pub asked : (asked : Asked) → are_accepted given ≡ true → asked_in given ≡ Some asked
       → IsRun (task_of asked) source sink errors is_finished outcome

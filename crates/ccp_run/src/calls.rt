@@ -1,6 +1,7 @@
 //! The modes whose work is done by their caller alone, and the ends without words.
 
 ghost use Rattle.std.specs.Prelude.{◌≤◌};
+ghost use Rattle.ccp_base.specs.Outside.{no_memory};
 ghost use Rattle.feed_core.specs.FeedEnds.{stream};
 ghost use Rattle.ccp_run.specs.Complete.{DoesTask};
 ghost use Rattle.ccp_run.specs.DriveEnds.{AllowsDrive, IsDriveEnd};
@@ -15,7 +16,7 @@ use crate::modes::drive::drive_frames;
 use crate::modes::run_alone;
 use crate::outcome::Outcome;
 use crate::status::{MEMORY_LINE, Status, WORDS_LINE};
-use ccp_base::{Sink, Source};
+use ccp_base::{NoMemory, Sink, Source};
 use ccp_words::Alone;
 use feed_core::Duplex;
 use std::alloc::Global;
@@ -65,8 +66,8 @@ pub fn refuse_words<E: Sink>(alloc: Global, errors: &mut E) -> Outcome
 }
 
 /// Ends if there is no memory for the words: reports that.
-pub fn without_words<E: Sink>(alloc: Global, errors: &mut E) -> Outcome
-    ensures { Ends (stream_change E.written E.faults errors.old errors.new) result Status.NoMemory memory_line }
+pub fn without_words<E: Sink>(alloc: Global, errors: &mut E, error: NoMemory) -> Outcome
+    ensures { Ends (stream_change E.written E.faults errors.old errors.new) result (Status.NoMemory no_memory) memory_line }
 {
-    end_without(alloc, errors, Status::NoMemory, MEMORY_LINE)
+    end_without(alloc, errors, Status::NoMemory(error), MEMORY_LINE)
 }

@@ -2,6 +2,7 @@
 
 use crate::refusal::{Limit, Refusal};
 use crate::stop::Stop;
+use ccp_base::NoMemory;
 use feed_core::FeedEnd;
 
 /// How the reading of an input of `drive` ends.
@@ -14,7 +15,7 @@ pub enum DriveEnd {
     ReadFailed,
     /// A write failed.
     WriteFailed,
-    NoMemory,
+    NoMemory(NoMemory),
 }
 
 impl From<Stop> for DriveEnd {
@@ -27,7 +28,7 @@ impl From<Stop> for DriveEnd {
         match stop {
             Stop::Refused(refusal) => DriveEnd::Refused(refusal),
             Stop::ReadFailed => DriveEnd::ReadFailed,
-            Stop::NoMemory => DriveEnd::NoMemory,
+            Stop::NoMemory(error) => DriveEnd::NoMemory(error),
         }
     }
 }
@@ -46,7 +47,7 @@ impl From<FeedEnd> for DriveEnd {
             FeedEnd::TooLong => DriveEnd::Refused(Refusal::TooLong(Limit::Audit)),
             FeedEnd::ReadFailed => DriveEnd::ReadFailed,
             FeedEnd::WriteFailed => DriveEnd::WriteFailed,
-            FeedEnd::NoMemory => DriveEnd::NoMemory,
+            FeedEnd::NoMemory(error) => DriveEnd::NoMemory(error),
         }
     }
 }

@@ -7,7 +7,7 @@ use crate::outcome::{ModeOutput, Outcome};
 use crate::refusal::{Refusal, refusal_line};
 use crate::status::{MEMORY_LINE, READ_LINE, Status, WRITE_LINE};
 use crate::stop::Stop;
-use ccp_base::{NoMemory, Sink, write_all};
+use ccp_base::{Sink, write_all};
 use std::alloc::Global;
 
 /// Writes the output, or reports why there is none.
@@ -25,7 +25,12 @@ pub fn end<K: Sink, E: Sink>(
         Ok(output) => write_output(alloc, output, sink, errors),
         Err(Stop::Refused(refusal)) => refuse(alloc, refusal, errors),
         Err(Stop::ReadFailed) => end_without(alloc, errors, Status::ReadFailed, READ_LINE),
-        Err(Stop::NoMemory) => end_without(alloc, errors, Status::NoMemory, MEMORY_LINE),
+        Err(Stop::NoMemory(error)) => end_without(
+            alloc,
+            errors,
+            Status::NoMemory(error),
+            MEMORY_LINE,
+        ),
     }
 }
 
@@ -60,7 +65,7 @@ pub fn refuse<E: Sink>(alloc: Global, refusal: Refusal, errors: &mut E) -> Outco
     }
     match refusal_line(alloc, &refusal) {
         Ok(line) => end_without(alloc, errors, Status::InputRefused, line.as_slice()),
-        Err(NoMemory) => end_without(alloc, errors, Status::NoMemory, MEMORY_LINE),
+        Err(error) => end_without(alloc, errors, Status::NoMemory(error), MEMORY_LINE),
     }
 }
 

@@ -20,7 +20,7 @@ pub fn program(alloc: Global, text: &[u8]) -> Result<Built, Stop>
 {
     match build(alloc, text) {
         Ok(built) => Ok(built),
-        Err(BuildFault::NoMemory) => Err(Stop::NoMemory),
+        Err(BuildFault::NoMemory(error)) => Err(Stop::NoMemory(error)),
         Err(fault) => Err(Stop::Refused(Refusal::Program(fault))),
     }
 }

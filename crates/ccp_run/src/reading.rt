@@ -15,6 +15,6 @@ pub fn read_bytes<S: Source>(alloc: Global, limit: Limit, source: &mut S) -> Res
         Ok(bytes) => Ok(bytes),
         Err(ReadFault::Read) => Err(Stop::ReadFailed),
         Err(ReadFault::TooLong) => Err(Stop::Refused(Refusal::TooLong(limit))),
-        Err(ReadFault::NoMemory) => Err(Stop::NoMemory),
+        Err(ReadFault::NoMemory(error)) => Err(Stop::NoMemory(error)),
     }
 }

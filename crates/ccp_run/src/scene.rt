@@ -19,7 +19,7 @@ impl From<SceneFault> for Stop {
 
     fn from(fault: SceneFault) -> Stop {
         match fault {
-            SceneFault::NoMemory => Stop::NoMemory,
+            SceneFault::NoMemory(error) => Stop::NoMemory(error),
             fault => Stop::Refused(Refusal::Scene(fault)),
         }
     }

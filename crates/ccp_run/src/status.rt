@@ -2,6 +2,8 @@
 ghost use Rattle.std.specs.Prelude.{◌≡◌};
 ghost use Rattle.ccp_run.specs.Statuses.{status_number, words_line, read_line, write_line, memory_line};
 
+use ccp_base::NoMemory;
+
 /// How a run ends.
 #[derive(Clone, Copy)]
 pub enum Status {
@@ -15,7 +17,7 @@ pub enum Status {
     ReadFailed,
     /// A write failed.
     WriteFailed,
-    NoMemory,
+    NoMemory(NoMemory),
 }
 
 /// The line that reports refused words.
@@ -41,7 +43,7 @@ impl Status {
             Status::InputRefused => 3,
             Status::ReadFailed => 4,
             Status::WriteFailed => 5,
-            Status::NoMemory => 6,
+            Status::NoMemory(_) => 6,
         }
     }
 }

@@ -1,4 +1,6 @@
 //! Why a mode has no output: a refusal, a failed read, or no memory.
+ghost use Rattle.ccp_base.specs.Outside.{no_memory};
+
 use crate::refusal::{Limit, Refusal};
 use ccp_base::NoMemory;
 use driven_flow::FrontFault;
@@ -8,17 +10,17 @@ use driven_flow::FrontFault;
 pub enum Stop {
     Refused(Refusal),
     ReadFailed,
-    NoMemory,
+    NoMemory(NoMemory),
 }
 
 impl From<NoMemory> for Stop {
     ghost use Rattle.std.specs.Prelude.{◌≡◌};
     ghost use Rattle.ccp_run.specs.declared.stop.Stop.TheVariants as stop;
 
-    ghost from_gives = { λ _ e. e ≡ stop.NoMemory };
+    ghost from_gives = { λ _ e. e ≡ stop.NoMemory no_memory };
 
-    fn from(_: NoMemory) -> Stop {
-        Stop::NoMemory
+    fn from(error: NoMemory) -> Stop {
+        Stop::NoMemory(error)
     }
 }
 
@@ -33,7 +35,7 @@ impl From<FrontFault> for Stop {
             FrontFault::TooLong => Stop::Refused(Refusal::TooLong(Limit::Input)),
             FrontFault::NoSeparator => Stop::Refused(Refusal::NoSeparator),
             FrontFault::ReadFailed => Stop::ReadFailed,
-            FrontFault::NoMemory => Stop::NoMemory,
+            FrontFault::NoMemory(error) => Stop::NoMemory(error),
         }
     }
 }

@@ -32,6 +32,11 @@ pub fn run<R: Threads + Wait + Sync, S: Source, K: Sink, E: Sink, G: Gate + Sync
     match read_words(alloc, &words) {
         Ok(asked) => run_asked(rt, alloc, asked, source, sink, errors, gate),
         Err(Unasked::Refused) => end_without(alloc, errors, Status::WordsRefused, WORDS_LINE),
-        Err(Unasked::NoMemory) => end_without(alloc, errors, Status::NoMemory, MEMORY_LINE),
+        Err(Unasked::NoMemory(error)) => end_without(
+            alloc,
+            errors,
+            Status::NoMemory(error),
+            MEMORY_LINE,
+        ),
     }
 }

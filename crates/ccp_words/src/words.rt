@@ -1,10 +1,12 @@
 //! How the command line's words are read: the mode, and each option with its range and default.
 ghost use Rattle.std.specs.Prelude.{◌≡◌, ◌≢◌, true, false, Some, IfOk, OnOk, IfErr, IfSome, option_map, map, string_bytes};
+ghost use Rattle.ccp_base.specs.Outside.{no_memory};
 ghost use Rattle.clap.specs.Words.{app_of, rule_of, found_of, one_text};
 ghost use Rattle.ccp_words.specs.Matches.{HasOptions, ReadsNumber, SaysMode, is_flag_text};
 ghost use Rattle.ccp_words.specs.Words.{HasWorkers, IsCommandLine, are_accepted, asked_in, bare_command, mode_argument, number_option, wire_flag};
 
 use crate::mode::{ToolMode, names};
+use ccp_base::NoMemory;
 use clap::builder::ValueParser;
 use clap::error::ErrorKind;
 use clap::{Arg, ArgAction, ArgMatches, Command};
@@ -18,17 +20,17 @@ const WORKERS: u64 = 32;
 pub enum Unasked {
     /// They aren't accepted.
     Refused,
-    NoMemory,
+    NoMemory(NoMemory),
 }
 
 impl From<AllocError> for Unasked {
     ghost use Rattle.std.specs.Prelude.{◌≡◌};
     ghost use Rattle.ccp_words.specs.declared.words.Unasked.TheVariants as unasked;
 
-    ghost from_gives = { λ _ e. e ≡ unasked.NoMemory };
+    ghost from_gives = { λ _ e. e ≡ unasked.NoMemory no_memory };
 
-    fn from(_: AllocError) -> Unasked {
-        Unasked::NoMemory
+    fn from(error: AllocError) -> Unasked {
+        Unasked::NoMemory(NoMemory::from(error))
     }
 }
 
@@ -53,12 +55,13 @@ pub fn read_words(alloc: Global, words: &[String]) -> Result<Asked, Unasked>
     ensures accepted { OnOk result (are_accepted (map string_bytes words.now) ≡ true) }
     ensures asked { IfOk result (λ asked. asked_in (map string_bytes words.now) ≡ Some asked) }
     ensures workers { IfOk result HasWorkers }
-    ensures err { IfErr result (λ e. e ≢ Unasked.NoMemory → are_accepted (map string_bytes words.now) ≡ false) }
+    ensures err { IfErr result (λ e. e ≢ Unasked.NoMemory no_memory → are_accepted (map string_bytes words.now) ≡ false) }
 {
     match command(alloc)?.try_get_matches_from(words) {
         Ok(matches) => read_matches(&matches).ok_or(Unasked::Refused),
         Err(error) => match error.kind() {
-            ErrorKind::OutOfMemory => Err(Unasked::NoMemory),
+            // by this kind clap reports a refused growth
+            ErrorKind::OutOfMemory => Err(Unasked::from(AllocError)),
             _ => Err(Unasked::Refused),
         },
     }

@@ -43,7 +43,7 @@ module _ (s : SessionState) (over : waits s ≡ false) where
           ∙ ap (with_answers (answer_bytes (refused_alone message version))) (rest (place + used) (drop used bytes))
       go rest (Err (More needed)) = refl
       go rest (Err (Bad field offset)) = refl
-      go rest (Err NoMemory) = refl
+      go rest (Err (NoMemory _)) = refl
 
 pub refuses-after-end : RefusesAfterEnd
 unfolding frames_from

@@ -145,7 +145,7 @@ reading-fails source source' source'' before middle now text rest rest' inside r
       rose = rose-late before middle now less rose more;
       not_over = open_there;
     }
-    fails NoMemory none = absurd none
+    fails (NoMemory _) none = absurd none
 
 -- with the next bytes the text is too long, or memory ran out
 pub reading-stops : (source source' : Known) (before now : ℕ) (text rest text' rest' : List ℕ) (inside inside' : Bool) (count : ℕ) (r : IsReading source source' text rest inside) → GoesOn r.line rest count inside'
@@ -163,7 +163,7 @@ reading-stops source source' before now text rest text' rest' inside inside' cou
         (omega (arith, taken, within, few, fits, length-append text (take count rest), length-drop count rest))
     stops NoSeparator none = absurd none
     stops ReadFailed none = absurd none
-    stops NoMemory done = record {
+    stops (NoMemory _) done = record {
       front = text;
       rest = rest;
       taken = r.taken;

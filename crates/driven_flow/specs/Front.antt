@@ -104,7 +104,7 @@ abbrev pub IsFrontFault : Stream → FrontFault → Type 0
 IsFrontFault source TooLong = IsTooLong source
 IsFrontFault source NoSeparator = HasNoSeparator source
 IsFrontFault source ReadFailed = FailsToReadFront source
-IsFrontFault source NoMemory = LacksMemoryForFront source
+IsFrontFault source (NoMemory _) = LacksMemoryForFront source
 
 -- what each result of the call says, with the bytes that are left in its rest
 abbrev pub IsFrontRead : Stream → List ℕ → Result Front FrontFault → Type 0

@@ -65,7 +65,7 @@ abbrev pub IsMoved : ℕ → (text rest text' rest' : List ℕ) → Result Unit 
 IsMoved count text rest text' rest' (Ok done) =
     (text' ≡ text ++ take count rest) × (rest' ≡ drop count rest) × (length text + count ≤ most_input_bytes)
 IsMoved count text rest text' rest' (Err TooLong) = most_input_bytes < length text + count
-IsMoved count text rest text' rest' (Err NoMemory) = Unit {0}
+IsMoved count text rest text' rest' (Err (NoMemory _)) = Unit {0}
 IsMoved count text rest text' rest' (Err _) = ⊥
 
 -- some bytes were taken and appended to the rest
@@ -83,7 +83,7 @@ IsMore before now old new text rest rest' (Err TooLong) =
 IsMore before now old new text rest rest' (Err NoSeparator) =
     (new ≡ old) × IsAtEnd old × (text + length rest ≤ most_input_bytes)
 IsMore before now old new text rest rest' (Err ReadFailed) = Rose before now × (new ≡ old)
-IsMore before now old new text rest rest' (Err NoMemory) = ⊥
+IsMore before now old new text rest rest' (Err (NoMemory _)) = ⊥
 
 -- how far the reading has come: the text is whole lines and the beginning of one, and what follows decides
 pub record IsReading (source source' : Known) (text rest : List ℕ) (inside : Bool) : Type 0 where

@@ -10,7 +10,7 @@ ghost use Rattle.driven_flow.specs.Front.{AllowsFront, IsFrontRead, DividedAtSep
 ghost use Rattle.driven_flow.specs.FrontLines.{longest_separator, IsOther, IsWithinLine, IsNext, IsCounted};
 ghost use Rattle.driven_flow.specs.FrontLines.{IsMoved, IsMore, IsTextRead};
 
-use ccp_base::{Bytes, without_return};
+use ccp_base::{Bytes, NoMemory, without_return};
 use feed_core::{Duplex, Piece, Rest};
 use memchr::memchr;
 use std::alloc::Global;
@@ -40,7 +40,7 @@ pub enum FrontFault {
     /// A read failed.
     ReadFailed,
     /// Memory ran out.
-    NoMemory,
+    NoMemory(NoMemory),
 }
 
 /// How the bytes that come begin, where each number counts bytes.
@@ -178,7 +178,7 @@ fn move_front(rest: &mut Rest, text: &mut Bytes, count: usize) -> Result<(), Fro
             rest.drop_front(count);
             Ok(())
         }
-        Err(_) => Err(FrontFault::NoMemory),
+        Err(error) => Err(FrontFault::NoMemory(NoMemory::from(error))),
     }
 }
 

@@ -2,7 +2,7 @@
 use Rattle.std.proofs.Common.{◌≡◌, inl, ℕ, ◌+◌, ◌-◌, ◌≤◌, false, [], length, ap, sym, refl, subst, ◌∙◌, arith, append-nil}
 use Rattle.std.proofs.Math.Seq.{take-nil}
 use Rattle.ccp_base.specs.Limits.{most_input_bytes}
-use Rattle.ccp_base.specs.Outside.{Known, Appends}
+use Rattle.ccp_base.specs.Outside.{Known, Appends, no_memory}
 use Rattle.feed_core.specs.declared.ending.FeedEnd.TheVariants as ends
 use Rattle.feed_core.specs.Feed.{FeedState, no_flows, answer_message}
 use Rattle.feed_core.specs.FeedBytes.{AnswerRule, left, Fed, with_answers, fed_no_more, fed, frames_from, feed_of}
@@ -53,7 +53,7 @@ pub no-answers : answers_written [] ≡ []
 no-answers = ap (λ (f : Fed FeedState). f.answers) nothing-fed
 
 -- no memory for a feed
-pub ends-unbegun : (source sink : Known) (rb rn wb wn : ℕ) (is_finished : Type 0) → IsFed feeding [] FeedLacksAt (stream source source rb rn) (stream sink sink wb wn) is_finished tt ends.NoMemory
+pub ends-unbegun : (source sink : Known) (rb rn wb wn : ℕ) (is_finished : Type 0) → IsFed feeding [] FeedLacksAt (stream source source rb rn) (stream sink sink wb wn) is_finished tt (ends.NoMemory no_memory)
 ends-unbegun source sink rb rn wb wn is_finished = record {
   bytes = [];
   front = [];

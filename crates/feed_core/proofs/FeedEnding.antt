@@ -3,7 +3,7 @@ use Rattle.std.proofs.Common.{◌≡◌, ◌⊎◌, inl, inr, ℕ, suc, ◌+◌,
 use Rattle.std.proofs.lemmas.Bool.Decides.{nat_tests}
 use Rattle.std.proofs.lemmas.List.{take_all, take-append-le}
 use Rattle.ccp_base.specs.Limits.{most_frame_bytes}
-use Rattle.ccp_base.specs.Outside.{Known, Rose, Takes, IsAtEnd, Appends, AppendsPrefix, Takes-append}
+use Rattle.ccp_base.specs.Outside.{Known, Rose, Takes, IsAtEnd, Appends, AppendsPrefix, Takes-append, no_memory}
 use Rattle.reply_frames.specs.declared.fault.BadKind.{BadKind}
 use Rattle.ccp_messages.specs.declared.fault.DecodeFault.TheVariants.{More, Bad}
 use Rattle.reply_frames.specs.declared.outline.Version.{Version}
@@ -144,7 +144,7 @@ module _ {S : Type 0} (start : Start S) (waits : S → Bool) (Takes' : S → Mes
       ends-last now_finished rb rn wb wm wn at_end first grown (ends.Bad field place) last = absurd last
       ends-last now_finished rb rn wb wm wn at_end first grown ends.TooLong last = absurd last
       ends-last now_finished rb rn wb wm wn at_end first grown ends.ReadFailed last = absurd last
-      ends-last now_finished rb rn wb wm wn at_end first grown ends.NoMemory last = absurd last
+      ends-last now_finished rb rn wb wm wn at_end first grown (ends.NoMemory _) last = absurd last
 
       -- a read failed
       pub ends-unread : (now : S) (rb rm rn wb wn : ℕ) → rb ≤ rm → rm ≤ rn → Rose rm rn → IsFed made start.before Lacks (stream source source' rb rn) (stream sink sink' wb wn) is_finished now ends.ReadFailed
@@ -295,7 +295,7 @@ module _ {S : Type 0} (start : Start S) (waits : S → Bool) (Takes' : S → Mes
       next = next-answers taking.message taking.version taking.used taking.begins;
     })
 
-    pub ends-wanting : (now : S) (rb rn wb wn : ℕ) → length rest ≤ most_frame_bytes → BeginsInstall rest ⊎ IsTaking Takes' state rest → IsFed made start.before Lacks (stream source source' rb rn) (stream sink sink' wb wn) is_finished now ends.NoMemory
+    pub ends-wanting : (now : S) (rb rn wb wn : ℕ) → length rest ≤ most_frame_bytes → BeginsInstall rest ⊎ IsTaking Takes' state rest → IsFed made start.before Lacks (stream source source' rb rn) (stream sink sink' wb wn) is_finished now (ends.NoMemory no_memory)
     ends-wanting now rb rn wb wn few cause = record {
       bytes = feeding.bytes;
       front = feeding.front;

@@ -1,6 +1,7 @@
 -- What the frames of an input say of a datapath's input.
 use Rattle.std.proofs.Common.{◌≡◌, ◌⊎◌, inl, inr, ℕ, ◌≤◌, Bool, true, false, cond, nat_lt, Option, Some, None, List, [], ◌++◌, length, take, ap, refl, ◌∙◌, arith, length-append, append-nil}
 use Rattle.std.proofs.lemmas.Bool.Decides.{nat_tests}
+use Rattle.ccp_base.specs.Outside.{no_memory}
 use Rattle.ccp_base.specs.Limits.{most_flows, most_input_bytes}
 use Rattle.reply_frames.specs.declared.outline.Version.{Version}
 use Rattle.ccp_messages.specs.declared.message.Message.{Message}
@@ -99,7 +100,7 @@ feeds-input source sink is_finished state ends.ReadFailed fed = record {
   goes_on = fed.goes_on;
 }
 feeds-input source sink is_finished state ends.WriteFailed fed = record { bytes = fed.bytes; taken = fed.taken; within = fed.within; rose = fed.rose; front = fed.front }
-feeds-input source sink is_finished state ends.NoMemory fed =
+feeds-input source sink is_finished state (ends.NoMemory no_memory) fed =
     let short : length fed.front ≤ most_input_bytes = omega (arith, fed.within, length-append fed.front fed.rest) in
     record {
       bytes = fed.bytes;

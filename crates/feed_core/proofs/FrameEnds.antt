@@ -40,7 +40,7 @@ nothing-read answer frames place state (Err (More needed)) e = refl
 nothing-read answer frames place state (Err (Bad field offset)) e =
     let within : offset < 0 = (decoded-bad [] field offset e).0.within in
     absurd (omega (arith, within))
-nothing-read answer frames place state (Err NoMemory) e = refl
+nothing-read answer frames place state (Err (NoMemory _)) e = refl
 
 pub fed-nothing : {S : Type 0} (answer : AnswerRule S) (frames place : ℕ) (state : S) → fed answer frames place state [] ≡ fed_no_more (left place []) state
 fed-nothing answer zero place state = refl

@@ -83,7 +83,7 @@ module _ {S : Type 0} (answer : AnswerRule S) where
           )
       go rest (Err (More needed)) e = ((fed answer (suc m) place state (bytes ++ more)).answers, refl)
       go rest (Err (Bad field offset)) e = ((fed answer (suc m) place state (bytes ++ more)).answers, refl)
-      go rest (Err NoMemory) e = ((fed answer (suc m) place state (bytes ++ more)).answers, refl)
+      go rest (Err (NoMemory _)) e = ((fed answer (suc m) place state (bytes ++ more)).answers, refl)
 
   take-both : (n : ℕ) (xs ys : List ℕ) → (rest : List ℕ) × (take n (xs ++ ys) ≡ take n xs ++ rest)
   take-both zero xs ys = ([], refl)
@@ -124,7 +124,7 @@ module _ {S : Type 0} (answer : AnswerRule S) where
           ap (with_answers (answer_to answer state message version)) (rest (place + used) (answer state message version).1 (drop used bytes) (omega (arith, some, within, long, few)) (omega (arith, some, within, long, few')))
       go rest (Err (More needed)) e = refl
       go rest (Err (Bad field offset)) e = refl
-      go rest (Err NoMemory) e = refl
+      go rest (Err (NoMemory _)) e = refl
 
   nothing-left : (place : ℕ) (rest : List ℕ) → LeavesNothing (left place rest) → rest ≡ []
   nothing-left place [] nothing = refl
@@ -168,7 +168,7 @@ module _ {S : Type 0} (answer : AnswerRule S) where
           ∙ ap (with_answers (reply ++ last.answers)) (fed-fuel m (suc m) (place + length bytes) last.state more (omega (arith, some, within, fits)) (omega (arith, fits)))
       go rest (Err (More needed)) e none = fed-none (suc m) place state bytes more (nothing-left place bytes none)
       go rest (Err (Bad field offset)) e none = absurd none
-      go rest (Err NoMemory) e none = fed-none (suc m) place state bytes more (nothing-left place bytes none)
+      go rest (Err (NoMemory _)) e none = fed-none (suc m) place state bytes more (nothing-left place bytes none)
 
   -- the limit is as far away
   as-far : (most long count : ℕ) → long ≤ most → nat_lt most (long + count) ≡ nat_lt (most - long) count

@@ -50,7 +50,7 @@ fed_on answer rest place state bytes (Ok (message, version, used)) =
     fed_after (answer state message version) (λ state. rest (place + used) state (drop used bytes))
 fed_on answer rest place state bytes (Err (Bad field offset)) = fed_no_more (bad field (place + offset)) state
 fed_on answer rest place state bytes (Err (More needed)) = fed_no_more (left place bytes) state
-fed_on answer rest place state bytes (Err NoMemory) = fed_no_more (left place bytes) state
+fed_on answer rest place state bytes (Err (NoMemory _)) = fed_no_more (left place bytes) state
 
 -- the bytes from a place of the input on, frame by frame, at most `frames`
 abbrev pub fed : {S : Type 0} → AnswerRule S → ℕ → ℕ → S → List ℕ → Fed S

@@ -1,6 +1,6 @@
 -- How an input of frames ends, and what was taken and written then.
 use Rattle.std.specs.Prelude.{◌≡◌, ◌⊎◌, ℕ, ◌+◌, ◌≤◌, nat_lt, false, List, [], ◌++◌, length}
-use Rattle.ccp_base.specs.Outside.{Known, Rose, Takes, IsAtEnd, Appends, AppendsPrefix}
+use Rattle.ccp_base.specs.Outside.{Known, Rose, Takes, IsAtEnd, Appends, AppendsPrefix, no_memory}
 use Rattle.ccp_base.specs.Limits.{most_frame_bytes, most_input_bytes}
 use Rattle.feed_core.specs.declared.ending.FeedEnd.{FeedEnd}
 use Rattle.feed_core.specs.declared.ending.FeedEnd.TheVariants.{Whole, Bad, Cut, TooLong, ReadFailed, WriteFailed}
@@ -121,7 +121,7 @@ IsFed a before LacksAt source sink is_finished state TooLong =
 IsFed a before LacksAt source sink is_finished state ReadFailed =
     FeedFailsToRead (after before a) source sink is_finished
 IsFed a before LacksAt source sink is_finished state WriteFailed = FeedFailsToWrite (after before a) source sink
-IsFed a before LacksAt source sink is_finished state NoMemory =
+IsFed a before LacksAt source sink is_finished state (NoMemory no_memory) =
     FeedLacksMemory a before LacksAt source sink is_finished
 
 -- a sink that was finished is finished, unless a write failed

@@ -7,4 +7,4 @@ use Rattle.feed_core.specs.declared.answering.Unanswered.TheVariants.{Write, NoM
 -- a write failed after a front of the answer, or nothing of it was written
 abbrev pub StopsAnswer : ℕ → ℕ → Known → Known → List ℕ → Unanswered → Type 0
 StopsAnswer before now old new answer Write = Rose before now × AppendsPrefix old new answer
-StopsAnswer before now old new answer NoMemory = new ≡ old
+StopsAnswer before now old new answer (NoMemory _) = new ≡ old

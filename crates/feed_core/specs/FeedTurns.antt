@@ -1,6 +1,6 @@
 -- The outcomes of the next frame of an input, and the invariant over its frames.
 use Rattle.std.specs.Prelude.{◌≡◌, ◌⊎◌, ℕ, ◌+◌, ◌-◌, ◌<◌, ◌≤◌, Err, List, ◌++◌, length}
-use Rattle.ccp_base.specs.Outside.{Known, Rose, Takes, Appends, AppendsPrefix}
+use Rattle.ccp_base.specs.Outside.{Known, Rose, Takes, Appends, AppendsPrefix, no_memory}
 use Rattle.ccp_base.specs.Limits.{most_frame_bytes}
 use Rattle.reply_frames.specs.declared.outline.Version.{Version}
 use Rattle.ccp_messages.specs.declared.message.Message.{Message}
@@ -41,7 +41,7 @@ pub record FailsOne {S : Type 0} (answer : AnswerRule S) (before now : ℕ) (old
 abbrev pub without_frame : DecodeFault → Turn
 without_frame (More needed) = turn.Part
 without_frame (Bad field offset) = turn.Bad field offset
-without_frame NoMemory = turn.NoMemory
+without_frame (NoMemory _) = turn.NoMemory no_memory
 
 -- no frame begins the bytes, which are a part of one
 pub record IsPart {S : Type 0} (old new : Known) (state state' : S) (bytes : List ℕ) : Type 0 where
@@ -74,7 +74,7 @@ IsTurn answer room Takes before now is_finished old new state state' bytes (turn
     (decoded_of bytes ≡ Err (Bad field offset)) × (offset < length bytes) × (new ≡ old)
 IsTurn answer room Takes before now is_finished old new state state' bytes turn.WriteFailed =
     FailsOne answer before now old new state bytes
-IsTurn answer room Takes before now is_finished old new state state' bytes turn.NoMemory =
+IsTurn answer room Takes before now is_finished old new state state' bytes (turn.NoMemory no_memory) =
     LacksMemory Takes old new state bytes
 
 -- a sink that was finished is finished, unless a write failed

@@ -1,7 +1,7 @@
 //! Answers one frame of an input and writes the answer.
 
 ghost use Rattle.std.specs.Prelude.{◌≡◌, ◌+◌, ◌<◌, ◌≤◌, length, OnOk, IfErr, Err};
-ghost use Rattle.ccp_base.specs.Outside.{Rose, Appends, AppendsPrefix};
+ghost use Rattle.ccp_base.specs.Outside.{Rose, Appends, AppendsPrefix, no_memory};
 ghost use Rattle.feed_core.specs.FeedHolds.{longest_answer, HasShortFrame};
 ghost use Rattle.ccp_messages.specs.Messages.{Meets, frame_bytes};
 ghost use Rattle.feed_core.specs.FeedBytes.{answer_bytes, answer_to};
@@ -24,17 +24,17 @@ const LONGEST: usize = 576;
 pub enum Unanswered {
     /// A write failed; a front of the answer was written.
     Write,
-    NoMemory,
+    NoMemory(NoMemory),
 }
 
 impl From<NoMemory> for Unanswered {
     ghost use Rattle.std.specs.Prelude.{◌≡◌};
     ghost use Rattle.feed_core.specs.declared.answering.Unanswered.TheVariants as unanswered;
 
-    ghost from_gives = { λ _ e. e ≡ unanswered.NoMemory };
+    ghost from_gives = { λ _ e. e ≡ unanswered.NoMemory no_memory };
 
-    fn from(_: NoMemory) -> Unanswered {
-        Unanswered::NoMemory
+    fn from(error: NoMemory) -> Unanswered {
+        Unanswered::NoMemory(error)
     }
 }
 
@@ -60,8 +60,8 @@ pub fn answer<A: Answerer, D: Duplex>(
     ensures counted { D.write_faults duplex.old ≤ D.write_faults duplex.new }
     ensures err { IfErr result (StopsAnswer (D.write_faults duplex.old) (D.write_faults duplex.new)
         (D.written duplex.old) (D.written duplex.new) (answer_to A.answer_of answerer.old message version)) }
-    ensures memory { result ≡ Err Unanswered.NoMemory → A.Takes answerer.old message }
-    ensures untouched { result ≡ Err Unanswered.NoMemory → duplex.new ≡ duplex.old }
+    ensures memory { result ≡ Err (Unanswered.NoMemory no_memory) → A.Takes answerer.old message }
+    ensures untouched { result ≡ Err (Unanswered.NoMemory no_memory) → duplex.new ≡ duplex.old }
 {
     match answerer.answer(alloc, message, version)? {
         None => Ok(()),

@@ -37,8 +37,9 @@ pub fn answer_frames<D: Duplex>(alloc: Global, duplex: &mut D) -> FeedEnd
         (D.write_faults duplex.old) (D.write_faults duplex.new))
         (D.is_finished duplex.new) tt result }
 {
-    let Ok(mut feed) = Feed::new(alloc) else {
-        return FeedEnd::NoMemory;
+    let mut feed = match Feed::new(alloc) {
+        Ok(feed) => feed,
+        Err(error) => return FeedEnd::NoMemory(error),
     };
     let mut rest = Rest::new();
     answer_from(alloc, &mut feed, &mut rest, 0, LIMIT, duplex)
@@ -93,7 +94,7 @@ pub fn answer_from<A: Answerer, D: Duplex>(
             }
             Turn::Bad(field, offset) => return FeedEnd::Bad(field, (place + offset) as u64),
             Turn::WriteFailed => return FeedEnd::WriteFailed,
-            Turn::NoMemory => return FeedEnd::NoMemory,
+            Turn::NoMemory(error) => return FeedEnd::NoMemory(error),
         }
     }
 }

@@ -1,5 +1,6 @@
 //! How an input of frames ends.
 
+use ccp_base::NoMemory;
 use reply_frames::BadKind;
 
 /// How an input of frames ends.
@@ -19,5 +20,5 @@ pub enum FeedEnd {
     ReadFailed,
     /// A write failed.
     WriteFailed,
-    NoMemory,
+    NoMemory(NoMemory),
 }

@@ -7,6 +7,7 @@ use crate::ack_frame::ack_frame;
 use crate::answerer::Answerer;
 use crate::answering::{Unanswered, answer, answer_ack};
 use crate::duplex::Duplex;
+use ccp_base::NoMemory;
 use ccp_messages::{BadKind, DecodeFault, decode};
 use std::alloc::Global;
 
@@ -21,7 +22,7 @@ pub enum Turn {
     Bad(BadKind, usize),
     /// A write failed; a front of the answer was written.
     WriteFailed,
-    NoMemory,
+    NoMemory(NoMemory),
 }
 
 /// The turn of bytes that don't begin with a frame.
@@ -31,7 +32,7 @@ fn without_frame(fault: DecodeFault) -> Turn
     match fault {
         DecodeFault::More(_) => Turn::Part,
         DecodeFault::Bad(field, offset) => Turn::Bad(field, offset),
-        DecodeFault::NoMemory => Turn::NoMemory,
+        DecodeFault::NoMemory(error) => Turn::NoMemory(error),
     }
 }
 
@@ -83,7 +84,7 @@ fn other_frame<A: Answerer, D: Duplex>(
         Ok((message, version, used)) => match answer(alloc, answerer, message, version, duplex) {
             Ok(()) => Turn::Answered(used),
             Err(Unanswered::Write) => Turn::WriteFailed,
-            Err(Unanswered::NoMemory) => Turn::NoMemory,
+            Err(Unanswered::NoMemory(error)) => Turn::NoMemory(error),
         },
         Err(fault) => without_frame(fault),
     }

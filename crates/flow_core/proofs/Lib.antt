@@ -11,6 +11,7 @@ pub mod LinkWordLemmas
 pub mod ValueLemmas
 pub mod WorkedText
 pub mod LeftLemmas
+pub mod RateLemmas
 pub mod SummaryLemmas
 pub mod BareLemmas
 pub mod BareAnswerLemmas

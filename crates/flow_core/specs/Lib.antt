@@ -6,6 +6,7 @@ pub mod Readings
 pub mod World
 pub mod RunningEpochs
 pub mod Cases
+pub mod ReadsRates
 pub mod Words
 pub mod ReservedLists
 pub mod Outbox

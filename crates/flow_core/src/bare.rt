@@ -16,6 +16,8 @@ ghost use Rattle.flow_core.specs.Summaries.{can_tell, may_make, is_idle, is_done
 ghost use Rattle.flow_core.specs.Bares.{IsFirst, AreGood, InRange, closed_parts, UpdatesBare, ChangesBare, ObeysBare};
 ghost use Rattle.flow_core.specs.Bares.{summary_by, told_ticket, instructions_at, IsBare, CanNote, HasSpace, NotesBare};
 ghost use Rattle.flow_core.specs.Journals.{begun_line};
+ghost use Rattle.flow_core.specs.ReadsRates.{case_reads_rates};
+ghost use Rattle.link_model.specs.Rated.{rated};
 
 use crate::book::EpochLine;
 use crate::case::Case;
@@ -586,13 +588,16 @@ impl Bare {
         self.parts.hear(ack, steps)
     }
 
-    /// As `ack`, without a count of the instructions.
+    /// As `ack`, without a count of the instructions. Without its rates an acknowledgement does the same, if the programs
+    /// of the flow's case read neither.
     #[inline(always)]
     pub fn hear(&mut self, ack: &Ack) -> Acked
         requires { may_make (over_codes self.old.case) self.old.summary Letter.A ≡ true }
         ensures step { self.new
             ≡ record self.old { summary = step_ack (over_codes self.old.case) ack.entry.now self.old.summary } }
         ensures acked { result ≡ acked_as (outcome_at (over_codes self.old.case) ack.entry.now self.old.summary).0 }
+        ensures unread { (whole : Ack) → ack.entry.now ≡ rated (case_reads_rates self.old.case) whole
+            → self.new ≡ record self.old { summary = step_ack (over_codes self.old.case) whole self.old.summary } }
     {
         self.hear_in_ledger::<Brand>(ack, Blank::new(1))
     }

@@ -1,6 +1,7 @@
 //! A flow without its link: its caller gives it each acknowledgement, and its end gives the book.
 ghost use Rattle.std.specs.Prelude.{◌≡◌, ◌+◌, ◌-◌, ◌<◌, ◌≤◌, ◌↔◌, ◌∷◌, [], ◌++◌, ℕ, true, Some, option_map, slice_get};
 ghost use Rattle.std.specs.Prelude.{length, Err, IsOk, IsErr, IfOk, IfErr, OnOk, OnErr};
+ghost use Rattle.ccp_base.specs.Outside.{no_memory};
 ghost use Rattle.flow_core.specs.World.{track_of, after_take, after_answer};
 ghost use Rattle.flow_core.specs.Words.{is_still, is_legal, legal_over};
 ghost use Rattle.flow_core.specs.Books.{IsBookOf};
@@ -31,16 +32,16 @@ pub enum TakeFault {
     NotYet,
     /// The ticket with this number is out.
     Out(u32),
-    NoMemory,
+    NoMemory(NoMemory),
 }
 
 impl From<NoMemory> for TakeFault {
     ghost use Rattle.flow_core.specs.declared.cores.TakeFault.TheVariants.{NoMemory};
 
-    ghost from_gives = { λ _ e. e ≡ NoMemory };
+    ghost from_gives = { λ _ e. e ≡ NoMemory no_memory };
 
-    fn from(_e: NoMemory) -> Self {
-        TakeFault::NoMemory
+    fn from(error: NoMemory) -> Self {
+        TakeFault::NoMemory(error)
     }
 }
 

@@ -12,6 +12,7 @@ mod letter;
 mod machine_calls;
 mod opening;
 mod outbox;
+mod reads_rates;
 mod report_words;
 mod reserved_list;
 mod running_epoch;

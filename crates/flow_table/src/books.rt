@@ -36,9 +36,9 @@ fn finish_flow<F: LockedFlow>(alloc: Global, flow: F) -> Result<F::Book, NoMemor
     let mut flow = flow;
     match complete(alloc, &mut flow) {
         Ok(()) => Ok(flow.finish()),
-        Err(NoMemory) => {
+        Err(error) => {
             drop(flow);
-            Err(NoMemory)
+            Err(error)
         }
     }
 }

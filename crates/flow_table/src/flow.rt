@@ -18,6 +18,9 @@ pub trait LockedFlow: Drop {
     // the case of a flow
     ghost case_of: { Self → Self.Case };
 
+    // the number of a case's flow
+    ghost number_of: { Self.Case → ℕ };
+
     // the case of a book
     ghost case_in: { Self.Book → Self.Case };
 
@@ -57,6 +60,10 @@ pub trait LockedFlow: Drop {
     /// Whether the flow is of this case.
     fn is_of(&self, case: &Self::Case) -> bool
         ensures { IsTrue result ↔ (case_of self.now ≡ case.now) };
+
+    /// The number of the flow.
+    fn number(&self) -> u32
+        ensures { result ≡ number_of (case_of self.now) };
 
     /// Takes the next acknowledgement, and gives what it means for a worker: Ended if and only if none is left; nothing
     /// changes then.

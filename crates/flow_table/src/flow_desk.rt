@@ -6,11 +6,10 @@ ghost use Rattle.worker_desk.specs.Serving.{heard_count};
 ghost use Rattle.worker_desk.specs.declared.event.Event.TheVariants.{Passed, Locked, Unlocked, Acked, Nudged};
 
 use crate::flow::LockedFlow;
-use crate::held::Held;
 use crate::nudges::Nudges;
 use crate::table::FlowTable;
 use ccp_base::{Gate, Point};
-use std::sync::Wait;
+use std::sync::{MutexGuard, Wait};
 use worker_desk::{Desk, Heard};
 
 /// The desk of a datapath worker over a table of flows.
@@ -20,24 +19,30 @@ pub(crate) struct FlowDesk<'a, F: LockedFlow, N, R, G> {
     pub(crate) table: &'a FlowTable<F>,
     pub(crate) nudges: &'a N,
     pub(crate) gate: &'a G,
-    pub(crate) held: Option<Held<'a, F>>,
+    pub(crate) held: Option<MutexGuard<'a, F>>,
     /// How many acknowledgements may still come; after the last one it waits forever.
     pub(crate) left: u64,
 }
 
 impl<'a, F: LockedFlow, N: Nudges, R: Wait, G: Gate> Desk for FlowDesk<'a, F, N, R, G> {
-    ghost use Rattle.std.specs.Prelude.{None, option_map, length};
-    ghost use Rattle.flow_table.specs.HeldFlows.{OfHeld};
+    ghost use Rattle.std.specs.Prelude.{◌≡◌, Some, None, length};
+    ghost use Rattle.flow_table.specs.HeldFlows.{number_held, OfHeld};
+
+    type Guard = MutexGuard<'a, F>;
 
     ghost log = { λ d. None };
 
-    ghost held = { λ d. option_map (λ held. held.flow) d.held };
+    ghost held = { λ d. number_held (λ flow. F.number_of (F.case_of flow)) d.held };
 
     ghost flows = { λ d. length d.table.now };
 
     ghost coming = { λ d. d.left };
 
     ghost HasAcked = { λ old new answer. OfHeld (λ before after. F.HasHeard before after answer) old.held new.held };
+
+    ghost HasKept = { λ old new. OfHeld (λ before after. after ≡ before) old.held new.held };
+
+    ghost HasReleased = { λ old guard. old.held ≡ Some guard };
 
     fn flow_count(&self) -> u32 {
         self.table.flows()
@@ -47,17 +52,19 @@ impl<'a, F: LockedFlow, N: Nudges, R: Wait, G: Gate> Desk for FlowDesk<'a, F, N,
         self.held = Some(self.table.lock(self.rt, flow));
     }
 
-    fn unlock(&mut self, _flow: u32) {
-        self.held = None;
+    fn unlock(&mut self, _flow: u32) -> MutexGuard<'a, F> {
+        let Some(guard) = self.held.take() else {
+            unreachable!()
+        };
+        guard
     }
 
     fn ack(&mut self, _worker: u32, _flow: u32) -> Heard {
-        let Some(held) = self.held.take() else {
+        let Some(mut guard) = self.held.take() else {
             unreachable!()
         };
-        let Held { flow, mut cell } = held;
-        let answer = cell.hear();
-        self.held = Some(Held { flow, cell });
+        let answer = guard.hear();
+        self.held = Some(guard);
         if let Heard::Ended = answer {
             return answer;
         }

@@ -28,6 +28,8 @@ impl LockedFlow for Cell {
 
     ghost case_of = { λ cell. cell.case };
 
+    ghost number_of = { λ case. case.flow };
+
     ghost case_in = { λ book. book.case };
 
     ghost fresh = { λ case. record { case = case; word = [] } };
@@ -56,6 +58,10 @@ impl LockedFlow for Cell {
 
     fn is_of(&self, case: &Case) -> bool {
         self.case().same(case)
+    }
+
+    fn number(&self) -> u32 {
+        self.case().flow
     }
 
     fn hear(&mut self) -> Heard {

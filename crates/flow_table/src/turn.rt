@@ -50,7 +50,7 @@ fn take(alloc: Global, cell: &mut Cell) -> Result<bool, NoMemory>
         Ok(_) => Ok(true),
         Err(TakeFault::NotYet) => Ok(false),
         Err(TakeFault::Out(_)) => Ok(false),
-        Err(TakeFault::NoMemory) => Err(NoMemory),
+        Err(TakeFault::NoMemory(error)) => Err(error),
     }
 }
 

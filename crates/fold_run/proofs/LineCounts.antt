@@ -1,5 +1,6 @@
 -- A reading that counts its acknowledgements ends as one that keeps them.
 use Rattle.std.proofs.Common.{◌≡◌, ◌≢◌, ℕ, ◌+◌, Bool, true, false, nat_lt, Result, Ok, Err, List, [], ◌∷◌, ◌++◌, length, refl, ap, sym, ◌∙◌, cond, length-append}
+use Rattle.ccp_base.specs.Outside.{no_memory}
 use Rattle.ccp_base.specs.declared.ack.Ack.{Ack}
 use Rattle.ccp_base.specs.Limits.{most_acks}
 use Rattle.ccp_base.specs.Parts.{without_last}
@@ -29,12 +30,12 @@ same_lines number (Ok acks) (line ∷ rest) =
     let told = read_ack_line (without_last 13 line) in
     ap (λ came. counted_lines (number + 1) came rest) (same_line number acks told) ∙ same_lines (number + 1) (with_line number acks told) rest
 
-fault_from : (came : Result (List Ack) LineFault) (fault : LineFault) → fault ≡ fault_counted (counted came) → fault ≢ NoMemory → came ≡ Err fault
+fault_from : (came : Result (List Ack) LineFault) (fault : LineFault) → fault ≡ fault_counted (counted came) → fault ≢ NoMemory no_memory → came ≡ Err fault
 fault_from (Ok acks) fault is other = absurd (other is)
 fault_from (Err e) fault is other = ap Err (sym is)
 
 -- the fault of a count is that of the lines
-pub counted-err : (next : ℕ) (lines : List (List ℕ)) (fault : LineFault) → fault ≡ fault_counted (counted_lines next (Ok 0) lines) → fault ≢ NoMemory → acks_of_lines next lines ≡ Err fault
+pub counted-err : (next : ℕ) (lines : List (List ℕ)) (fault : LineFault) → fault ≡ fault_counted (counted_lines next (Ok 0) lines) → fault ≢ NoMemory no_memory → acks_of_lines next lines ≡ Err fault
 counted-err next lines fault is other = fault_from (acks_of_lines next lines) fault (is ∙ ap fault_counted (same_lines next (Ok []) lines)) other
 
 pub counted-first : (next : ℕ) (lines : List (List ℕ)) (fault : LineFault) → fault ≡ fault_counted (counted_lines next (Ok 0) lines) → (e : LineFault) → acks_of_lines next lines ≡ Err e → fault ≡ e

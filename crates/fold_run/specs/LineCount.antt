@@ -1,5 +1,6 @@
 -- The words of private contracts: what a reading finds that only counts its acknowledgements.
 use Rattle.std.specs.Prelude.{ℕ, ◌+◌, nat_lt, if◌then◌else◌, Result, Ok, Err, List, [], ◌∷◌}
+use Rattle.ccp_base.specs.Outside.{no_memory}
 use Rattle.ccp_base.specs.Limits.{most_acks}
 use Rattle.ccp_base.specs.Parts.{without_last}
 use Rattle.fold_run.specs.declared.acks.LineFault.{LineFault}
@@ -21,5 +22,5 @@ counted_lines number (Ok count) (line ∷ rest) =
 
 -- the fault of a count, and out of memory if there is none
 abbrev pub fault_counted : Result ℕ LineFault → LineFault
-fault_counted (Ok count) = NoMemory
+fault_counted (Ok count) = NoMemory no_memory
 fault_counted (Err fault) = fault

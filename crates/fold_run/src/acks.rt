@@ -1,10 +1,11 @@
 //! How the lines below the separator are read: at most 65,536 acknowledgements, or the first refused line.
 ghost use Rattle.std.specs.Prelude.{◌≡◌, ◌≢◌, ◌+◌, ◌^◌, ◌<◌, ◌≤◌, IfOk, IfErr, OnOk, Ok, Err, length};
+ghost use Rattle.ccp_base.specs.Outside.{no_memory};
 ghost use Rattle.ccp_base.specs.Limits.{most_acks};
 ghost use Rattle.ccp_base.specs.declared.parts.Separator.TheVariants.{LineFeed};
 ghost use Rattle.ccp_base.specs.Parts.{parts_of};
 ghost use Rattle.fold_run.specs.declared.acks.LineFault.{LineFault};
-ghost use Rattle.fold_run.specs.declared.acks.LineFault.TheVariants.{NoMemory};
+ghost use Rattle.fold_run.specs.declared.acks.LineFault.TheVariants as faults;
 ghost use Rattle.fold_run.specs.AckLine.{read_ack_line};
 ghost use Rattle.fold_run.specs.Acknowledgements.{with_line, acks_of_lines};
 
@@ -13,7 +14,7 @@ use crate::first_line::first_line;
 use crate::line_fault::before_memory;
 use crate::line_values::LineValues;
 use crate::names::Followers;
-use ccp_base::{Acks, ack_of, without_return};
+use ccp_base::{Acks, NoMemory, ack_of, without_return};
 use std::alloc::{AllocError, Global};
 
 /// The most acknowledgements of one input.
@@ -26,14 +27,14 @@ pub enum LineFault {
     Line(u64),
     /// There is an acknowledgement after the 65,536th.
     TooMany,
-    NoMemory,
+    NoMemory(NoMemory),
 }
 
 impl From<AllocError> for LineFault {
-    ghost from_gives = { λ _ e. e ≡ NoMemory };
+    ghost from_gives = { λ _ e. e ≡ faults.NoMemory no_memory };
 
-    fn from(_error: AllocError) -> LineFault {
-        LineFault::NoMemory
+    fn from(error: AllocError) -> LineFault {
+        LineFault::NoMemory(NoMemory::from(error))
     }
 }
 
@@ -42,7 +43,7 @@ impl From<AllocError> for LineFault {
 pub fn acknowledgements(alloc: Global, lines: &[u8], next: u64) -> Result<Acks, LineFault>
     requires { next + length lines.now < 2 ^ 64 }
     ensures ok { IfOk result (λ acks. acks_of_lines next (parts_of LineFeed lines.now) ≡ Ok acks) }
-    ensures err { IfErr result (λ e. e ≢ NoMemory → acks_of_lines next (parts_of LineFeed lines.now) ≡ Err e) }
+    ensures err { IfErr result (λ e. e ≢ faults.NoMemory no_memory → acks_of_lines next (parts_of LineFeed lines.now) ≡ Err e) }
     ensures first { (e : LineFault) → acks_of_lines next (parts_of LineFeed lines.now) ≡ Err e → result ≡ Err e }
     ensures within { IfOk result (λ acks. length acks ≤ most_acks) }
 {
@@ -56,7 +57,7 @@ pub fn acknowledgements(alloc: Global, lines: &[u8], next: u64) -> Result<Acks, 
 fn kept_acks(alloc: Global, lines: &[u8], next: u64) -> Result<Acks, LineFault>
     requires { next + length lines.now < 2 ^ 64 }
     ensures ok { IfOk result (λ acks. acks_of_lines next (parts_of LineFeed lines.now) ≡ Ok acks) }
-    ensures err { IfErr result (λ e. e ≢ NoMemory → acks_of_lines next (parts_of LineFeed lines.now) ≡ Err e) }
+    ensures err { IfErr result (λ e. e ≢ faults.NoMemory no_memory → acks_of_lines next (parts_of LineFeed lines.now) ≡ Err e) }
     ensures within { IfOk result (λ acks. length acks ≤ most_acks) }
 {
     let mut acks = Acks::from_vec(Vec::with_capacity(alloc, room_for(lines))?);
@@ -92,7 +93,7 @@ fn put_line(
 ) -> Result<(), LineFault>
     requires { length acks.old ≤ most_acks }
     ensures ok { OnOk result (with_line number acks.old (read_ack_line line.now) ≡ Ok acks.new) }
-    ensures err { IfErr result (λ e. e ≢ NoMemory → with_line number acks.old (read_ack_line line.now) ≡ Err e) }
+    ensures err { IfErr result (λ e. e ≢ faults.NoMemory no_memory → with_line number acks.old (read_ack_line line.now) ≡ Err e) }
     ensures within { length acks.new ≤ most_acks }
 {
     let mut values = LineValues::none();

@@ -1,10 +1,11 @@
 //! The first fault of lines, found without memory: their acknowledgements are only counted.
 ghost use Rattle.std.specs.Prelude.{◌≡◌, ◌≢◌, ◌+◌, ◌^◌, ◌<◌, ◌≤◌, IfOk, Ok, Err, length};
+ghost use Rattle.ccp_base.specs.Outside.{no_memory};
 ghost use Rattle.ccp_base.specs.Limits.{most_acks};
 ghost use Rattle.ccp_base.specs.declared.parts.Separator.TheVariants.{LineFeed};
 ghost use Rattle.ccp_base.specs.Parts.{parts_of};
 ghost use Rattle.fold_run.specs.declared.acks.LineFault.{LineFault};
-ghost use Rattle.fold_run.specs.declared.acks.LineFault.TheVariants.{NoMemory};
+ghost use Rattle.fold_run.specs.declared.acks.LineFault.TheVariants as faults;
 ghost use Rattle.fold_run.specs.AckLine.{read_ack_line};
 ghost use Rattle.fold_run.specs.Acknowledgements.{acks_of_lines};
 ghost use Rattle.fold_run.specs.LineCount.{counted_line, counted_lines, fault_counted};
@@ -14,23 +15,23 @@ use crate::acks::{LineFault, MOST_ACKS};
 use crate::first_line::first_line;
 use crate::line_values::LineValues;
 use crate::names::Followers;
-use ccp_base::without_return;
+use ccp_base::{NoMemory, without_return};
 
 /// The fault of a reading, or the fault of a line that the reading didn't reach because memory ran out before it.
 pub fn before_memory(lines: &[u8], next: u64, fault: LineFault) -> LineFault
     requires room { next + length lines.now < 2 ^ 64 }
-    requires cause { fault ≢ NoMemory → acks_of_lines next (parts_of LineFeed lines.now) ≡ Err fault }
-    ensures err { result ≢ NoMemory → acks_of_lines next (parts_of LineFeed lines.now) ≡ Err result }
+    requires cause { fault ≢ faults.NoMemory no_memory → acks_of_lines next (parts_of LineFeed lines.now) ≡ Err fault }
+    ensures err { result ≢ faults.NoMemory no_memory → acks_of_lines next (parts_of LineFeed lines.now) ≡ Err result }
     ensures first { (e : LineFault) → acks_of_lines next (parts_of LineFeed lines.now) ≡ Err e → result ≡ e }
 {
     match fault {
-        LineFault::NoMemory => first_fault(lines, next),
+        LineFault::NoMemory(error) => first_fault(lines, next, error),
         _ => fault,
     }
 }
 
-/// The first fault of lines, and `NoMemory` if there is none.
-fn first_fault(lines: &[u8], next: u64) -> LineFault
+/// The first fault of lines, and this error if there is none.
+fn first_fault(lines: &[u8], next: u64, error: NoMemory) -> LineFault
     requires { next + length lines.now < 2 ^ 64 }
     ensures { result ≡ fault_counted (counted_lines next (Ok 0) (parts_of LineFeed lines.now)) }
 {
@@ -47,7 +48,7 @@ fn first_fault(lines: &[u8], next: u64) -> LineFault
         rest = after;
         number += 1;
     }
-    LineFault::NoMemory
+    LineFault::NoMemory(error)
 }
 
 /// How many acknowledgements there are with that of the line of this number, if it has one.

@@ -10,6 +10,7 @@ use std::sync::Wait;
 use std::test::Fail;
 
 /// The table of a scenario's flows.
+#[tactic(auto, using(ccp_run::proofs::LiveLemmas::flows_numbered))]
 fn table(alloc: Global, text: &[u8]) -> Result<FlowTable<Cell>, Fail> {
     let scene = scenario(alloc, text, SceneMode::Live)?;
     Ok(FlowTable::new(alloc, scene.cases)?)
@@ -25,9 +26,9 @@ fn flow_and_acks(cells: &Sequence<Cell>, place: usize) -> Option<(u32, u32)> {
 fn acknowledge<R: Abort + Wait>(rt: &R, table: &FlowTable<Cell>, flow: u32) {
     let flows = table.flows();
     assert!(rt; flow < flows);
-    let mut held = table.lock(rt, flow);
-    let acked = held.cell.hear();
-    drop(held);
+    let mut guard = table.lock(rt, flow);
+    let acked = guard.hear();
+    drop(guard);
     assert!(rt; acked.is_ok());
 }
 

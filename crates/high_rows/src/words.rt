@@ -1,13 +1,13 @@
 //! Words for which there is no memory.
-use ccp_base::MemSink;
+use ccp_base::{MemSink, NoMemory};
 use ccp_run::Outcome;
 use ccp_run::calls::without_words;
-use std::alloc::Global;
+use std::alloc::{AllocError, Global};
 use std::test::*;
 
 /// Ends without memory for the words, without the clause, which the proof of the test would search.
 fn end_without_memory(alloc: Global, errors: &mut MemSink) -> Outcome {
-    without_words(alloc, errors)
+    without_words(alloc, errors, NoMemory::from(AllocError))
 }
 
 /// Whether a run without memory for its words ends with 6 and reports that.

@@ -3,6 +3,7 @@ use Rattle.std.proofs.Common.{◌≡◌, ◌≢◌, ℕ, zero, suc, ◌+◌, ◌
 use Rattle.std.proofs.lemmas.Bool.Decides.{nat_tests}
 use Rattle.std.specs.Option.{option_or}
 use Rattle.ccp_base.specs.Parts.{separates}
+use Rattle.ccp_base.specs.declared.outside.NoMemory.{NoMemory}
 use Rattle.ccp_base.specs.declared.parts.Separator.TheVariants.{Blank}
 use Rattle.link_model.specs.declared.trace_text.TraceLine.{TraceLine}
 use Rattle.link_model.specs.declared.trace_text.TraceLine.TheVariants.{Nothing, Time, Bad}
@@ -65,9 +66,9 @@ none_left [] is = refl
 none_left (x ∷ xs) is = absurd (grind (arith, nat_tests))
 
 -- what was read of the lines, with what is left of them, is what all of them say
-pub record IsReadingOf (all left : List (List ℕ)) (times : List ℕ) (short : Bool) (count before number : ℕ) (fall : Option ℕ) : Type 0 where
+pub record IsReadingOf (all left : List (List ℕ)) (times : List ℕ) (refused : Option NoMemory) (count before number : ℕ) (fall : Option ℕ) : Type 0 where
   pub goods : first_bad_line number left ≡ first_bad_line 1 all
-  pub read : short ≡ false → times ++ times_of left ≡ times_of all
+  pub read : refused ≡ None → times ++ times_of left ≡ times_of all
   pub counts : count + length (times_of left) ≡ length (times_of all)
   pub lasts : last_after before left ≡ last_after 0 all
   pub falls : option_or fall (first_fall number before left) ≡ first_fall 1 0 all

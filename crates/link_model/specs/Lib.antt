@@ -1,5 +1,5 @@
 -- The definitions of link_model, a file each; files named ..Laws have what follows from them.
--- Public contracts cite Chances, Counts, Link, Runs, Standing, TraceText and Traces. Flights, Horizon, Lines and
+-- Public contracts cite Chances, Counts, Link, Rated, Runs, Standing, TraceText and Traces. Flights, Horizon, Lines and
 -- LinkMoves belong to the proofs: they say what a link keeps and how it moves from step to step.
 pub mod Chances
 pub mod Counts
@@ -9,6 +9,7 @@ pub mod Lines
 pub mod Link
 pub mod LinkLaws
 pub mod LinkMoves
+pub mod Rated
 pub mod Runs
 pub mod Standing
 pub mod TraceText

@@ -4,6 +4,7 @@ ghost use Rattle.ccp_base.specs.Limits.{most_acks};
 ghost use Rattle.link_model.specs.Traces.{IsTrace};
 ghost use Rattle.link_model.specs.Standing.{Stands, IsAnswer, StandsOn};
 ghost use Rattle.link_model.specs.LinkMoves.{next_ack, next_standing};
+ghost use Rattle.link_model.specs.Rated.{rated, IsRatedAnswer};
 
 use crate::allowed::Allowed;
 use crate::link_case::LinkCase;
@@ -74,21 +75,34 @@ impl Link {
         ensures case { self.new.case ≡ self.old.case }
         ensures calls { self.new.standing.calls ≡ self.old.standing.calls + 1 }
     {
-        self.step(window)
+        self.next_rated(window, true)
+    }
+
+    /// As `next`, but the two rates of the acknowledgement are computed only if `rates` is true, and are 0 otherwise:
+    /// each takes a division.
+    #[inline(always)]
+    pub fn next_rated(&mut self, window: u64, rates: bool) -> Ack
+        requires { self.old.standing.calls < most_acks }
+        ensures ack { IsRatedAnswer rates self.old window result }
+        ensures stands { StandsOn self.old window self.new }
+        ensures case { self.new.case ≡ self.old.case }
+        ensures calls { self.new.standing.calls ≡ self.old.standing.calls + 1 }
+    {
+        self.step(window, rates)
     }
 
     #[inline(always)]
-    fn step(&mut self, window: u64) -> Ack
+    fn step(&mut self, window: u64, rates: bool) -> Ack
         requires { self.old.standing.calls < most_acks }
         ensures valid { IsTrace self.old.case.trace }
         ensures case { self.new.case ≡ self.old.case }
-        ensures ack { result ≡ next_ack self.old.case window self.old.standing }
+        ensures ack { result ≡ rated rates (next_ack self.old.case window self.old.standing) }
         ensures standing { self.new.standing ≡ next_standing self.old.case window self.old.standing }
         ensures calls { self.new.standing.calls ≡ self.old.standing.calls + 1 }
     {
         let most = self.allowed.by(&self.case, window);
         let more = most.saturating_sub(self.traffic.in_flight);
         self.traffic.send(&self.case, more);
-        self.traffic.acknowledge(&self.case)
+        self.traffic.acknowledge(&self.case, rates)
     }
 }

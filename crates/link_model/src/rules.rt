@@ -4,6 +4,7 @@ ghost use Rattle.std.specs.List.Sorted.{IsStrictlyIncreasing};
 ghost use Rattle.ccp_base.specs.Limits.{most_flight, most_segment_bytes};
 ghost use Rattle.link_model.specs.Link.{allowance_of, allowance, byte_rate, is_marked, is_listed, number_if, arrival_ack_of, timeout_ack_of, timeout_ack, run_of};
 ghost use Rattle.link_model.specs.Standing.{packet_ack};
+ghost use Rattle.link_model.specs.Rated.{rated};
 ghost use Rattle.link_model.specs.Counts.{AreOnce, AddUp, most_packets};
 ghost use Rattle.link_model.specs.Runs.{AreInOrder, AreSampled, AllFindRoom};
 
@@ -52,7 +53,8 @@ impl LinkCase {
     }
 
     /// The acknowledgement of `arrival` after `past`, if `stay` packets stay in flight and `acked` packets were
-    /// acknowledged, this one counted, of `sent` that were sent.
+    /// acknowledged, this one counted, of `sent` that were sent. Its two rates are computed only if `rates` is true,
+    /// and are 0 otherwise.
     #[inline]
     pub(crate) fn arrival_ack(
         &self,
@@ -61,24 +63,34 @@ impl LinkCase {
         stay: u64,
         acked: u64,
         sent: u64,
+        rates: bool,
     ) -> Ack
         requires order { arrival.sent_at ≤ arrival.at }
         requires stay { stay ≤ most_flight }
         requires acked { acked ≤ most_packets }
         requires sent { sent ≤ most_packets }
-        ensures { result ≡ packet_ack self.now arrival past stay acked sent }
+        ensures { result ≡ rated rates (packet_ack self.now arrival past stay acked sent) }
     {
-        arrival_ack(self.mss, arrival, past, stay, acked, sent)
+        arrival_ack(self.mss, arrival, past, stay, acked, sent, rates)
     }
 
     /// The acknowledgement of a timeout at `now`, in microseconds, after `past`, if all `lost` packets in flight are
-    /// lost and `acked` packets were acknowledged of `sent` that were sent.
-    pub(crate) fn timeout_ack(&self, now: u64, past: Past, lost: u64, acked: u64, sent: u64) -> Ack
+    /// lost and `acked` packets were acknowledged of `sent` that were sent. Its two rates are computed only if `rates`
+    /// is true, and are 0 otherwise.
+    pub(crate) fn timeout_ack(
+        &self,
+        now: u64,
+        past: Past,
+        lost: u64,
+        acked: u64,
+        sent: u64,
+        rates: bool,
+    ) -> Ack
         requires acked { acked ≤ most_packets }
         requires sent { sent ≤ most_packets }
-        ensures { result ≡ timeout_ack self.now now past lost 0 acked sent }
+        ensures { result ≡ rated rates (timeout_ack self.now now past lost 0 acked sent) }
     {
-        timeout_ack(self.mss, now, past, lost, acked, sent)
+        timeout_ack(self.mss, now, past, lost, acked, sent, rates)
     }
 
     /// What holds after every list of windows: no chance serves two packets, and each packet that was sent was
@@ -132,6 +144,16 @@ fn rate(mss: u32, packets: u64, now: u64) -> u64
     u64::from(mss) * packets * 1_000_000 / now
 }
 
+/// As `rate` if `rates` is true, and 0 otherwise, without a division.
+#[inline]
+fn rate_if(rates: bool, mss: u32, packets: u64, now: u64) -> u64
+    requires mss { mss ≤ most_segment_bytes }
+    requires packets { packets ≤ most_packets }
+    ensures { result ≡ number_if rates (byte_rate mss packets now) }
+{
+    if rates { rate(mss, packets, now) } else { 0 }
+}
+
 /// Whether a packet is marked if `queued` packets wait when it is sent: at least `mark` of them mean a mark.
 #[inline]
 pub fn is_marked(mark: Option<u32>, queued: u128) -> bool
@@ -144,15 +166,25 @@ pub fn is_marked(mark: Option<u32>, queued: u128) -> bool
 }
 
 /// The acknowledgement of `arrival`, a packet of `mss` bytes, after `past`, if `stay` packets stay in flight and
-/// `acked` packets were acknowledged, this one counted, of `sent` that were sent.
+/// `acked` packets were acknowledged, this one counted, of `sent` that were sent. Its two rates are computed only if
+/// `rates` is true, and are 0 otherwise.
 #[inline]
-pub fn arrival_ack(mss: u32, arrival: Arrival, past: Past, stay: u64, acked: u64, sent: u64) -> Ack
+pub fn arrival_ack(
+    mss: u32,
+    arrival: Arrival,
+    past: Past,
+    stay: u64,
+    acked: u64,
+    sent: u64,
+    rates: bool,
+) -> Ack
     requires mss { mss ≤ most_segment_bytes }
     requires order { arrival.sent_at ≤ arrival.at }
     requires stay { stay ≤ most_flight }
     requires acked { acked ≤ most_packets }
     requires sent { sent ≤ most_packets }
-    ensures { result ≡ arrival_ack_of mss arrival.sent_at arrival.at arrival.marked past arrival.lost stay acked sent }
+    ensures { result ≡ rated rates
+        (arrival_ack_of mss arrival.sent_at arrival.at arrival.marked past arrival.lost stay acked sent) }
 {
     let _ = past;
     let bytes = u64::from(mss);
@@ -168,26 +200,35 @@ pub fn arrival_ack(mss: u32, arrival: Arrival, past: Past, stay: u64, acked: u64
         bytes_in_flight: bytes * stay,
         packets_in_flight: stay,
         bytes_pending: 0,
-        rate_incoming: rate(mss, acked, arrival.at),
-        rate_outgoing: rate(mss, sent, arrival.at),
+        rate_incoming: rate_if(rates, mss, acked, arrival.at),
+        rate_outgoing: rate_if(rates, mss, sent, arrival.at),
         rtt_sample_us: arrival.at - arrival.sent_at,
         was_timeout: false,
     }
 }
 
 /// The acknowledgement of a timeout at `now`, in microseconds, after `past`, if all `lost` packets in flight, of `mss`
-/// bytes each, are lost and `acked` packets were acknowledged of `sent` that were sent.
-pub fn timeout_ack(mss: u32, now: u64, past: Past, lost: u64, acked: u64, sent: u64) -> Ack
+/// bytes each, are lost and `acked` packets were acknowledged of `sent` that were sent. Its two rates are computed only
+/// if `rates` is true, and are 0 otherwise.
+pub fn timeout_ack(
+    mss: u32,
+    now: u64,
+    past: Past,
+    lost: u64,
+    acked: u64,
+    sent: u64,
+    rates: bool,
+) -> Ack
     requires mss { mss ≤ most_segment_bytes }
     requires acked { acked ≤ most_packets }
     requires sent { sent ≤ most_packets }
-    ensures { result ≡ timeout_ack_of mss now past lost 0 acked sent }
+    ensures { result ≡ rated rates (timeout_ack_of mss now past lost 0 acked sent) }
 {
     Ack {
         lost_pkts_sample: lost,
         now,
-        rate_incoming: rate(mss, acked, now),
-        rate_outgoing: rate(mss, sent, now),
+        rate_incoming: rate_if(rates, mss, acked, now),
+        rate_outgoing: rate_if(rates, mss, sent, now),
         rtt_sample_us: past.rtt_sample_us,
         was_timeout: true,
         ..Ack::default()

@@ -1,5 +1,6 @@
 //! The trace of a link: the times at which it can send a packet, read from a text.
 ghost use Rattle.std.specs.Prelude.{◌≡◌, ◌≢◌, ◌^◌, ◌<◌, Ok, Err, IfOk, IfErr, length};
+ghost use Rattle.ccp_base.specs.Outside.{no_memory};
 
 use crate::trace_text::read_lines;
 use ccp_base::NoMemory;
@@ -20,17 +21,17 @@ pub enum TraceFault {
     NotRising(u64),
     /// The last number is 0.
     ZeroPeriod,
-    NoMemory,
+    NoMemory(NoMemory),
 }
 
 impl From<AllocError> for TraceFault {
     ghost use Rattle.std.specs.Prelude.{◌≡◌};
     ghost use Rattle.link_model.specs.declared.trace.TraceFault.TheVariants as fault;
 
-    ghost from_gives = { λ _ f. f ≡ fault.NoMemory };
+    ghost from_gives = { λ _ f. f ≡ fault.NoMemory no_memory };
 
-    fn from(_error: AllocError) -> TraceFault {
-        TraceFault::NoMemory
+    fn from(error: AllocError) -> TraceFault {
+        TraceFault::NoMemory(NoMemory::from(error))
     }
 }
 
@@ -38,10 +39,10 @@ impl From<AllocFailed<u32>> for TraceFault {
     ghost use Rattle.std.specs.Prelude.{◌≡◌};
     ghost use Rattle.link_model.specs.declared.trace.TraceFault.TheVariants as fault;
 
-    ghost from_gives = { λ _ f. f ≡ fault.NoMemory };
+    ghost from_gives = { λ _ f. f ≡ fault.NoMemory no_memory };
 
-    fn from(_error: AllocFailed<u32>) -> TraceFault {
-        TraceFault::NoMemory
+    fn from(error: AllocFailed<u32>) -> TraceFault {
+        TraceFault::NoMemory(NoMemory::from(error))
     }
 }
 
@@ -74,7 +75,7 @@ impl Trace {
     /// of `TraceFault`: it is `NoMemory` only if the text is a trace.
     pub fn read(alloc: Global, text: &[u8]) -> Result<Trace, TraceFault>
         ensures ok { IfOk result (λ trace. trace_of text.now ≡ Ok trace) }
-        ensures err { IfErr result (λ f. f ≢ fault.NoMemory → trace_of text.now ≡ Err f) }
+        ensures err { IfErr result (λ f. f ≢ fault.NoMemory no_memory → trace_of text.now ≡ Err f) }
         ensures first { (f : TraceFault) → trace_of text.now ≡ Err f → result ≡ Err f }
     {
         let reading = read_lines(alloc, text)?;
@@ -87,8 +88,8 @@ impl Trace {
         if reading.before == 0 {
             return Err(TraceFault::ZeroPeriod);
         }
-        if reading.short {
-            return Err(TraceFault::NoMemory);
+        if let Some(error) = reading.refused {
+            return Err(TraceFault::NoMemory(error));
         }
         Ok(Trace {
             times: reading.times,

@@ -5,7 +5,7 @@ ghost use Rattle.link_model.specs.Traces.{period};
 ghost use Rattle.link_model.specs.declared.trace.TraceFault.TheVariants as fault;
 
 use crate::trace::{LONGEST_MS, TraceFault};
-use ccp_base::{Separator, first_part, numeral, without_return};
+use ccp_base::{NoMemory, Separator, first_part, numeral, without_return};
 use std::alloc::Global;
 
 /// What one line of a trace text says.
@@ -22,10 +22,10 @@ pub(crate) enum TraceLine {
 /// What was read of a trace text so far.
 #[derive(Drop)]
 pub(crate) struct TraceReading {
-    /// The times, in milliseconds, unless the list is short.
+    /// The times, in milliseconds, unless a growth was refused.
     pub times: Vec<u32>,
-    /// Whether the list couldn't grow: then it lacks times.
-    pub short: bool,
+    /// That the list couldn't grow, if it couldn't: then it lacks times.
+    pub refused: Option<NoMemory>,
     /// How many times there are, those that the list lacks counted.
     pub count: u64,
     /// The last of them, or 0.
@@ -43,8 +43,8 @@ impl TraceReading {
         requires count { self.old.count < self.old.line }
         ensures good { OnOk result (is_bad_line line ≡ false) }
         ensures line { OnOk result (self.new.line ≡ self.old.line + 1) }
-        ensures long { OnOk result (self.new.short ≡ false → self.old.short ≡ false) }
-        ensures times { OnOk result (self.new.short ≡ false
+        ensures long { OnOk result (self.new.refused ≡ None → self.old.refused ≡ None) }
+        ensures times { OnOk result (self.new.refused ≡ None
             → self.new.times.items ≡ self.old.times.items ++ with_time line []) }
         ensures count { OnOk result (self.new.count ≡ self.old.count + length (with_time line [])) }
         ensures few { OnOk result (self.new.count < self.new.line) }
@@ -57,7 +57,7 @@ impl TraceReading {
             TraceLine::Bad => return Err(TraceFault::BadLine(self.line)),
             TraceLine::Nothing => {}
             TraceLine::Time(time) => {
-                keep(&mut self.times, &mut self.short, time);
+                keep(&mut self.times, &mut self.refused, time);
                 self.count += 1;
                 if time < self.before {
                     self.fall = self.fall.or(Some(self.line));
@@ -70,23 +70,23 @@ impl TraceReading {
     }
 }
 
-/// Appends a time to a list, unless the list can't grow or couldn't before: then it is short.
-fn keep(times: &mut Vec<u32>, short: &mut bool, time: u32)
-    ensures long { short.new ≡ false → short.old ≡ false }
-    ensures times { short.new ≡ false → times.new.items ≡ times.old.items ++ time ∷ [] }
+/// Appends a time to a list, unless the list can't grow or couldn't before.
+fn keep(times: &mut Vec<u32>, refused: &mut Option<NoMemory>, time: u32)
+    ensures long { refused.new ≡ None → refused.old ≡ None }
+    ensures times { refused.new ≡ None → times.new.items ≡ times.old.items ++ time ∷ [] }
 {
-    if *short {
+    if refused.is_some() {
         return;
     }
-    if times.push(time).is_err() {
-        *short = true;
+    if let Err(error) = times.push(time) {
+        *refused = Some(NoMemory::from(error));
     }
 }
 
 /// Reads every line of a trace text, up to the first bad one.
 pub(crate) fn read_lines(alloc: Global, text: &[u8]) -> Result<TraceReading, TraceFault>
     ensures good { OnOk result (first_bad_line 1 (text_lines text.now) ≡ None) }
-    ensures times { IfOk result (λ r. r.short ≡ false → r.times.items ≡ times_of (text_lines text.now)) }
+    ensures times { IfOk result (λ r. r.refused ≡ None → r.times.items ≡ times_of (text_lines text.now)) }
     ensures count { IfOk result (λ r. r.count ≡ length (times_of (text_lines text.now))) }
     ensures last { IfOk result (λ r. r.before ≡ period (times_of (text_lines text.now))) }
     ensures fall { IfOk result (λ r. r.fall ≡ first_fall 1 0 (text_lines text.now)) }
@@ -96,7 +96,7 @@ pub(crate) fn read_lines(alloc: Global, text: &[u8]) -> Result<TraceReading, Tra
     let mut rest = text;
     let mut reading = TraceReading {
         times: Vec::new(alloc),
-        short: false,
+        refused: None,
         count: 0,
         before: 0,
         line: 1,

@@ -5,6 +5,7 @@ ghost use Rattle.link_model.specs.Counts.{most_packets};
 ghost use Rattle.link_model.specs.Standing.{first_standing};
 ghost use Rattle.link_model.specs.LinkMoves.{standing_in, TakesStep, SendsOn, with_lost, served_now, sending, link_ack, standing_after_ack};
 ghost use Rattle.link_model.specs.Lines.{IsMovedTo};
+ghost use Rattle.link_model.specs.Rated.{rated};
 ghost use Rattle.link_model.specs.Horizon.{IsKept, IsCounted};
 
 use crate::arrival::Arrival;
@@ -177,14 +178,15 @@ impl Traffic {
         self.line.take_chance(&case.trace, now);
     }
 
-    /// Acknowledges the first packet in flight that isn't lost, or times out if there is none.
+    /// Acknowledges the first packet in flight that isn't lost, or times out if there is none. The rates of the
+    /// acknowledgement are computed only if `rates` is true, and are 0 otherwise.
     #[inline(always)]
-    pub(crate) fn acknowledge(&mut self, case: &LinkCase) -> Ack
+    pub(crate) fn acknowledge(&mut self, case: &LinkCase, rates: bool) -> Ack
         requires kept { IsKept case.now self.old }
         requires sent { self.old.sent ≤ most_packets }
         requires acked { self.old.acked ≤ self.old.calls }
         requires calls { self.old.calls < most_acks }
-        ensures ack { result ≡ link_ack case.now (standing_in case.now.trace self.old) }
+        ensures ack { result ≡ rated rates (link_ack case.now (standing_in case.now.trace self.old)) }
         ensures standing { TakesStep case.now (standing_after_ack case.now) self.old self.new }
         ensures kept { IsKept case.now self.new }
         ensures sent { self.new.sent ≡ self.old.sent }
@@ -192,26 +194,27 @@ impl Traffic {
         ensures calls { self.new.calls ≡ self.old.calls + 1 }
     {
         let Some(arrival) = self.flight.pop_front() else {
-            return self.time_out(case);
+            return self.time_out(case, rates);
         };
         self.in_flight -= arrival.lost + 1;
         self.acked += 1;
         self.calls += 1;
         self.time = arrival.at;
-        let ack = case.arrival_ack(arrival, self.past, self.in_flight, self.acked, self.sent);
+        let stay = self.in_flight;
+        let ack = case.arrival_ack(arrival, self.past, stay, self.acked, self.sent, rates);
         self.past = Past::after(&ack);
         ack
     }
 
-    /// Times out: all packets in flight are lost.
+    /// Times out: all packets in flight are lost. `rates` is as in `acknowledge`.
     #[inline]
-    fn time_out(&mut self, case: &LinkCase) -> Ack
+    fn time_out(&mut self, case: &LinkCase, rates: bool) -> Ack
         requires kept { IsKept case.now self.old }
         requires none { self.old.flight.items ≡ [] }
         requires sent { self.old.sent ≤ most_packets }
         requires acked { self.old.acked ≤ self.old.calls }
         requires calls { self.old.calls < most_acks }
-        ensures ack { result ≡ link_ack case.now (standing_in case.now.trace self.old) }
+        ensures ack { result ≡ rated rates (link_ack case.now (standing_in case.now.trace self.old)) }
         ensures standing { TakesStep case.now (standing_after_ack case.now) self.old self.new }
         ensures kept { IsKept case.now self.new }
         ensures sent { self.new.sent ≡ self.old.sent }
@@ -224,7 +227,7 @@ impl Traffic {
         self.in_flight = 0;
         self.calls += 1;
         self.time = now;
-        let ack = case.timeout_ack(now, self.past, lost, self.acked, self.sent);
+        let ack = case.timeout_ack(now, self.past, lost, self.acked, self.sent, rates);
         self.past = Past::after(&ack);
         ack
     }

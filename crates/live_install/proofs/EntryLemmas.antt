@@ -1,6 +1,7 @@
 -- What is built of a text is what the text stands for.
-use Rattle.std.specs.Prelude.{◌≡◌, ◌≢◌, ℕ, true, false, Result, Ok, Err, IfOk, IfErr, List, refl}
+use Rattle.std.specs.Prelude.{◌≡◌, ◌≢◌, ℕ, true, false, Result, Ok, Err, IfOk, IfErr, Option, Some, None, IfSome, List, refl}
 use Rattle.std.proofs.Common.{ap}
+use Rattle.ccp_base.specs.Outside.{no_memory}
 use Rattle.portus_core.specs.ProgramForm.{form_of}
 use Rattle.reg_compiler.specs.declared.built.Built.{Built}
 use Rattle.portus_build.specs.Settled.{IsSettled}
@@ -11,7 +12,7 @@ use Rattle.portus_build.proofs.AnswerLemmas.{built_ok, built_err}
 use Rattle.live_install.specs.BuiltTexts.{is_no_memory, IsEntry}
 
 pub is_entry : (text : List ℕ) → IsSettled text → (answer : Result Built BuildFault) → IfErr answer (λ e. is_no_memory e ≡ false)
-    → IfOk answer (λ b. IsBuiltFrom text (form_of b.program)) → IfErr answer (λ e. e ≢ NoMemory → IsNoProgram text e)
+    → IfOk answer (λ b. IsBuiltFrom text (form_of b.program)) → IfErr answer (λ e. e ≢ NoMemory no_memory → IsNoProgram text e)
     → IsEntry text answer
 is_entry text settled (Ok built) some found refused = record {
   answers = built_ok text settled (Ok built) found;
@@ -19,8 +20,13 @@ is_entry text settled (Ok built) some found refused = record {
 }
 is_entry text settled (Err e) some found refused =
     let is : is_no_memory e ≡ false = some in
-    let other : e ≢ NoMemory = λ same. let no : is_no_memory e ≡ true = ap is_no_memory same in (cc) in
+    let other : e ≢ NoMemory no_memory = λ same. let no : is_no_memory e ≡ true = ap is_no_memory same in (cc) in
     record {
       answers = built_err text settled (Err e) refused other;
       ruled = settled.by_rule e (refused other);
     }
+
+-- what an option has, it is
+pub some_itself : {X : Type 0} → (option : Option X) → IfSome option (λ x. option ≡ Some x)
+some_itself None = tt
+some_itself (Some x) = refl

@@ -1,6 +1,7 @@
 -- The lemmas of live_install, a file a topic.
 pub mod EntryLemmas
 pub mod ListLemmas
+pub mod NumberLemmas
 pub mod SeenLemmas
 pub mod NextLemmas
 pub mod LetterLemmas

@@ -24,7 +24,7 @@ is_out_of_memory (Err refusal) = runs_out_of_memory refusal
 
 -- whether memory ran out outside the steps of building
 abbrev pub is_no_memory : BuildFault → Bool
-is_no_memory NoMemory = true
+is_no_memory (NoMemory _) = true
 is_no_memory (Parse fault) = false
 is_no_memory (Scope fault) = false
 is_no_memory (Compile fault) = false

@@ -1,5 +1,5 @@
 //! The entries of a flow's library: a step's text with its program and code, or with its refusal.
-ghost use Rattle.std.specs.Prelude.{◌≡◌, ◌<◌, Some, false, length, slice_get, IfOk, option_copied};
+ghost use Rattle.std.specs.Prelude.{◌≡◌, ◌<◌, Some, false, length, slice_get, IfOk, option_copied, is_some};
 ghost use Rattle.live_install.specs.BuiltTexts.{was_built, is_no_memory, is_out_of_memory, Answers, IsEntry, built_of};
 
 use ccp_base::{Bytes, NoMemory, Sequence};
@@ -33,15 +33,15 @@ impl Model for Entry {
     ghost invariant = { λ e. IsEntry e.text e.answer };
 }
 
-/// Whether memory ran out outside the steps of building.
-fn is_no_memory(refusal: &BuildFault) -> bool
-    ensures { result ≡ is_no_memory refusal.now }
+/// That memory ran out, if it did so outside the steps of building.
+fn lack_of_memory(refusal: &BuildFault) -> Option<NoMemory>
+    ensures { is_some result ≡ is_no_memory refusal.now }
 {
     match refusal {
-        BuildFault::Parse(_) => false,
-        BuildFault::Scope(_) => false,
-        BuildFault::Compile(_) => false,
-        BuildFault::NoMemory => true,
+        BuildFault::Parse(_) => None,
+        BuildFault::Scope(_) => None,
+        BuildFault::Compile(_) => None,
+        BuildFault::NoMemory(error) => Some(*error),
     }
 }
 
@@ -51,8 +51,10 @@ fn build_answer(alloc: Global, text: &[u8]) -> Result<Result<Built, BuildFault>,
 {
     match build(alloc, text) {
         Ok(built) => Ok(Ok(built)),
-        Err(refusal) if is_no_memory(&refusal) => Err(NoMemory),
-        Err(refusal) => Ok(Err(refusal)),
+        Err(refusal) => match lack_of_memory(&refusal) {
+            Some(error) => Err(error),
+            None => Ok(Err(refusal)),
+        },
     }
 }
 

@@ -1,5 +1,5 @@
 //! The desk of an installer: texts built without a lock, entries and changes under the flow's lock.
-ghost use Rattle.std.specs.Prelude.{◌≡◌, ℕ, ◌<◌, ◌≤◌, Option, Some, None, option_map, is_some, IfSome};
+ghost use Rattle.std.specs.Prelude.{◌≡◌, ℕ, ◌<◌, ◌≤◌, Option, Some, None, is_some, IfSome};
 ghost use Rattle.std.specs.Prelude.{[], ◌∷◌, length, slice_get};
 ghost use Rattle.std.proofs.Props.{props};
 ghost use Rattle.worker_desk.specs.Logs.{KnownLog, Logs};
@@ -9,10 +9,10 @@ ghost use Rattle.worker_desk.specs.declared.event.Event.TheVariants.{Installed, 
 use crate::cell::OpenCell;
 use crate::entry::{Entry, entry_of};
 use ccp_base::{Gate, Point};
-use flow_table::{FlowTable, Held};
+use flow_table::FlowTable;
 use scene_members::OpenCase;
 use std::alloc::Global;
-use std::sync::Wait;
+use std::sync::{MutexGuard, Wait};
 
 /// What the texts of a flow are built from.
 #[derive(Clone, Copy)]
@@ -38,13 +38,13 @@ pub(crate) struct InstallDesk<'a, R: Wait, G: Gate> {
     pub(crate) alloc: Global,
     pub(crate) table: &'a FlowTable<OpenCell>,
     pub(crate) gate: &'a G,
-    pub(crate) held: Option<Held<'a, OpenCell>>,
+    pub(crate) held: Option<MutexGuard<'a, OpenCell>>,
 }
 
 impl<'a, R: Wait, G: Gate> worker_desk::InstallDesk for InstallDesk<'a, R, G> {
-    ghost use Rattle.std.specs.Prelude.{None, option_map, length};
-    ghost use Rattle.flow_table.specs.HeldFlows.{OfHeld};
-    ghost use Rattle.live_install.specs.Installing.{HasInstalled, HasChanged};
+    ghost use Rattle.std.specs.Prelude.{◌≡◌, Some, None, length, slice_get};
+    ghost use Rattle.flow_table.specs.HeldFlows.{number_held, OfHeld};
+    ghost use Rattle.live_install.specs.Installing.{IsTextOf, HasInstalled, HasChanged};
 
     type Source = TextSource<'a>;
 
@@ -52,9 +52,11 @@ impl<'a, R: Wait, G: Gate> worker_desk::InstallDesk for InstallDesk<'a, R, G> {
 
     type Entry = Entry;
 
+    type Guard = MutexGuard<'a, OpenCell>;
+
     ghost log = { λ d. None };
 
-    ghost held = { λ d. option_map (λ held. held.flow) d.held };
+    ghost held = { λ d. number_held (λ cell. cell.case.flow) d.held };
 
     ghost flows = { λ d. length d.table.now };
 
@@ -66,6 +68,12 @@ impl<'a, R: Wait, G: Gate> worker_desk::InstallDesk for InstallDesk<'a, R, G> {
 
     ghost source_at = { λ text. None };
 
+    ghost IsOf = { λ desk source flow. slice_get desk.table.now flow ≡ Some source.case.now };
+
+    ghost HasBuilt = { λ source step text. IsTextOf source.case.now step text.entry };
+
+    ghost IsEntryOf = { λ text entry. text.entry ≡ Some entry };
+
     ghost step_of = { λ entry. entry.step };
 
     ghost HasInstalled = { λ old new entry is_next.
@@ -73,6 +81,10 @@ impl<'a, R: Wait, G: Gate> worker_desk::InstallDesk for InstallDesk<'a, R, G> {
 
     ghost HasChanged = { λ old new changed.
         OfHeld (λ before after. HasChanged before after changed) old.held new.held };
+
+    ghost HasKept = { λ old new. OfHeld (λ before after. after ≡ before) old.held new.held };
+
+    ghost HasReleased = { λ old guard. old.held ≡ Some guard };
 
     fn flow_count(&self) -> u32 {
         self.table.flows()
@@ -94,6 +106,7 @@ impl<'a, R: Wait, G: Gate> worker_desk::InstallDesk for InstallDesk<'a, R, G> {
         }
     }
 
+    #[tactic(auto, using(crate::proofs::EntryLemmas::some_itself))]
     fn take_entry(&mut self, text: BuiltText) -> Option<Entry> {
         text.entry
     }
@@ -102,27 +115,28 @@ impl<'a, R: Wait, G: Gate> worker_desk::InstallDesk for InstallDesk<'a, R, G> {
         self.held = Some(self.table.lock(self.rt, flow));
     }
 
-    fn unlock(&mut self, _flow: u32) {
-        self.held = None;
+    fn unlock(&mut self, _flow: u32) -> MutexGuard<'a, OpenCell> {
+        let Some(guard) = self.held.take() else {
+            unreachable!()
+        };
+        guard
     }
 
     fn install(&mut self, _flow: u32, entry: Entry) -> bool {
-        let Some(held) = self.held.take() else {
+        let Some(mut guard) = self.held.take() else {
             unreachable!()
         };
-        let Held { flow, mut cell } = held;
-        let installed = cell.install(entry);
-        self.held = Some(Held { flow, cell });
+        let installed = guard.install(entry);
+        self.held = Some(guard);
         installed.is_ok()
     }
 
     fn change(&mut self, _flow: u32) -> bool {
-        let Some(held) = self.held.take() else {
+        let Some(mut guard) = self.held.take() else {
             unreachable!()
         };
-        let Held { flow, mut cell } = held;
-        let changed = cell.change().is_ok();
-        self.held = Some(Held { flow, cell });
+        let changed = guard.change().is_ok();
+        self.held = Some(guard);
         changed
     }
 

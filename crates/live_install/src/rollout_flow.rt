@@ -27,6 +27,8 @@ impl LockedFlow for OpenCell {
 
     ghost case_of = { λ cell. cell.case };
 
+    ghost number_of = { λ case. case.flow };
+
     ghost case_in = { λ book. book.case };
 
     ghost fresh = { λ case. record { case = case; entries = []; word = [] } };
@@ -55,6 +57,10 @@ impl LockedFlow for OpenCell {
 
     fn is_of(&self, case: &OpenCase) -> bool {
         self.case().same(case)
+    }
+
+    fn number(&self) -> u32 {
+        self.case().flow
     }
 
     fn hear(&mut self) -> Heard {

@@ -2,6 +2,7 @@
 ghost use Rattle.std.specs.Prelude.{◌≡◌, ◌≤◌, IfOk, length, map};
 ghost use Rattle.std.specs.List.{All};
 ghost use Rattle.ccp_base.specs.Limits.{most_flows};
+ghost use Rattle.scene_members.specs.OpenCases.{AreOpenFlowsFrom};
 ghost use Rattle.live_install.specs.WholeBooks.{IsWhole, case_in};
 
 use crate::OpenBooks;
@@ -16,7 +17,7 @@ use std::thread::Threads;
 
 /// One book a case, in order, whatever the numbers of workers, and in whatever order threads take the flows' locks:
 /// each book has its case, a word that is legal and complete for it, and the state after it, read over the sources of
-/// the texts. No clause says which such word it is. There are at most 64 cases.
+/// the texts. No clause says which such word it is. There are at most 64 cases, in the order of their flows' numbers.
 ///
 /// Datapath worker `d` takes the acknowledgements of the flows `f` with `f mod datapaths = d`, one of each in turn. It
 /// passes the gate at `BeforeAck` and `AfterAck` without a lock and at `InAck` with the flow's. Installer `a`, whose
@@ -24,6 +25,7 @@ use std::thread::Threads;
 /// installs each in the flow's library and passes `AfterTake`, and changes the flow to it, if it is a program, and
 /// passes `AfterSettle`. What they leave is done by the caller at the end, and so is the work of a worker whose thread
 /// can't be started.
+#[tactic(auto, using(crate::proofs::NumberLemmas::open_flows_numbered))]
 pub fn rollout<R: Threads + Wait + Sync, G: Gate + Sync>(
     rt: &R,
     alloc: Global,
@@ -33,6 +35,7 @@ pub fn rollout<R: Threads + Wait + Sync, G: Gate + Sync>(
     gate: &G,
 ) -> Result<OpenBooks, NoMemory>
     requires few { length cases ≤ most_flows }
+    requires numbered { AreOpenFlowsFrom 0 cases }
     // The books are those of the cases, and each has the state after a legal and complete word.
     ensures cases { IfOk result (λ books. map case_in books ≡ cases) }
     ensures whole { IfOk result (λ books. All IsWhole books) }

@@ -17,7 +17,7 @@ pub fn put_epoch_lines(text: &mut Bytes, epochs: &[EpochLine]) -> Result<(), NoM
 }
 
 /// Appends the line of the epoch with this number.
-pub fn put_epoch_line(text: &mut Bytes, number: usize, epoch: &EpochLine) -> Result<(), NoMemory>
+fn put_epoch_line(text: &mut Bytes, number: usize, epoch: &EpochLine) -> Result<(), NoMemory>
     ensures { OnOk result (text.new ≡ text.old ++ epoch_text number epoch.now) }
 {
     put_labelled(text, b"epoch ", number as u64)?;

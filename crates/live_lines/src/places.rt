@@ -1,7 +1,9 @@
 //! The lines of faults with their places: those of programs' instructions, by the programs' numbers.
-ghost use Rattle.std.specs.Prelude.{◌≡◌, ◌++◌, OnOk, map};
+ghost use Rattle.std.specs.Prelude.{◌≡◌, ◌++◌, List, OnOk, length, map};
+ghost use Rattle.ccp_base.specs.declared.place.Place.{Place};
 ghost use Rattle.flow_core.specs.Lift.{Placing, place_at};
 ghost use Rattle.flow_core.specs.LiveText.{fault_lines};
+ghost use Rattle.flow_core.specs.World.{Failure};
 ghost use Rattle.live_lines.specs.FaultPlaces.{placed, program_places};
 
 use ccp_base::{Bytes, NoMemory, Notice, Place};
@@ -16,6 +18,20 @@ pub trait Places {
     /// The place of an instruction of the program with this number.
     fn place(&self, program: u32, index: u16) -> Place
         ensures { result ≡ placing self.now program index };
+}
+
+/// The faults of a flow with their places.
+pub trait PlacedFaults {
+    /// The faults in order.
+    ghost failures: { Self → List (Failure Place) };
+
+    /// Appends the lines of the faults.
+    fn put(&self, text: &mut Bytes) -> Result<(), NoMemory>
+        ensures { OnOk result (text.new ≡ text.old ++ fault_lines (failures self.now)) };
+
+    /// How many faults there are.
+    fn count(&self) -> usize
+        ensures { result ≡ length (failures self.now) };
 }
 
 /// Appends the lines of faults with their places.

@@ -28,6 +28,8 @@ struct TicketDesk<'a, R: Abort> {
 impl<'a, R: Abort> AgentDesk for TicketDesk<'a, R> {
     ghost use Rattle.std.specs.Prelude.{Some, vec_len};
 
+    type Guard = u32;
+
     ghost log = { λ d. Some d.events.items };
 
     ghost held = { λ d. d.held };
@@ -51,9 +53,10 @@ impl<'a, R: Abort> AgentDesk for TicketDesk<'a, R> {
         self.held = Some(flow);
     }
 
-    fn unlock(&mut self, flow: u32) {
+    fn unlock(&mut self, flow: u32) -> u32 {
         keep(self.rt, &mut self.events, Event::Unlocked(flow));
         self.held = None;
+        flow
     }
 
     fn take(&mut self, flow: u32) -> Option<Ticket> {

@@ -48,6 +48,8 @@ impl<'a, R: Abort> InstallDesk for StepDesk<'a, R> {
 
     type Entry = u32;
 
+    type Guard = u32;
+
     ghost log = { λ d. Some d.events.items };
 
     ghost held = { λ d. d.held };
@@ -98,9 +100,10 @@ impl<'a, R: Abort> InstallDesk for StepDesk<'a, R> {
         self.held = Some(flow);
     }
 
-    fn unlock(&mut self, flow: u32) {
+    fn unlock(&mut self, flow: u32) -> u32 {
         keep(self.rt, &mut self.events, Event::Unlocked(flow));
         self.held = None;
+        flow
     }
 
     fn install(&mut self, flow: u32, entry: u32) -> bool {

@@ -24,6 +24,8 @@ struct AnswerDesk<'a, R: Abort> {
 impl<'a, R: Abort> Desk for AnswerDesk<'a, R> {
     ghost use Rattle.std.specs.Prelude.{Some, vec_len};
 
+    type Guard = u32;
+
     ghost log = { λ d. Some d.events.items };
 
     ghost held = { λ d. d.held };
@@ -41,9 +43,10 @@ impl<'a, R: Abort> Desk for AnswerDesk<'a, R> {
         self.held = Some(flow);
     }
 
-    fn unlock(&mut self, flow: u32) {
+    fn unlock(&mut self, flow: u32) -> u32 {
         keep(self.rt, &mut self.events, Event::Unlocked(flow));
         self.held = None;
+        flow
     }
 
     fn ack(&mut self, worker: u32, flow: u32) -> Heard {

@@ -27,6 +27,15 @@ const READINGS: [Reading; 8] = [
     (3, &[4], 7, Ok(TEXT), 0),
 ];
 
+fn is_same(fault: ReadFault, wanted: ReadFault) -> bool {
+    match (fault, wanted) {
+        (ReadFault::Read, ReadFault::Read) => true,
+        (ReadFault::TooLong, ReadFault::TooLong) => true,
+        (ReadFault::NoMemory(_), ReadFault::NoMemory(_)) => true,
+        _ => false,
+    }
+}
+
 fn is_read(alloc: Global, row: &Reading) -> bool {
     let (most, failing, limit, wanted, faults) = *row;
     if most == 0 {
@@ -35,7 +44,7 @@ fn is_read(alloc: Global, row: &Reading) -> bool {
     let mut source = MemSource::new(TEXT, most, failing);
     let came = match (read_all(alloc, &mut source, limit), wanted) {
         (Ok(bytes), Ok(wanted)) => bytes.as_slice() == wanted,
-        (Err(fault), Err(wanted)) => fault == wanted,
+        (Err(fault), Err(wanted)) => is_same(fault, wanted),
         _ => false,
     };
     came && source.faults() == faults

@@ -1,5 +1,6 @@
 -- What a text is built into, or its refusal, is what the walks over the text find.
 use Rattle.std.proofs.Common.{◌≡◌, ◌≢◌, List, ℕ, Result, Ok, Err, IfOk, IfErr, ap}
+use Rattle.ccp_base.specs.Outside.{no_memory}
 use Rattle.portus_core.specs.Programs.{Form}
 use Rattle.portus_core.specs.ProgramForm.{form_of}
 use Rattle.reg_compiler.specs.declared.built.Built.{Built}
@@ -23,7 +24,7 @@ pub built_ok : (text : List ℕ) → IsSettled text → (result : Result Built B
 built_ok text settled (Ok b) found = same_ok text settled (program_of text) (walks_exact text) (form_of b.program) found
 built_ok text settled (Err e) found = tt
 
-pub built_err : (text : List ℕ) → IsSettled text → (result : Result Built BuildFault) → IfErr result (λ e. e ≢ NoMemory → IsNoProgram text e)
-    → IfErr result (λ e. e ≢ NoMemory → program_of text ≡ Err e)
+pub built_err : (text : List ℕ) → IsSettled text → (result : Result Built BuildFault) → IfErr result (λ e. e ≢ NoMemory no_memory → IsNoProgram text e)
+    → IfErr result (λ e. e ≢ NoMemory no_memory → program_of text ≡ Err e)
 built_err text settled (Ok b) refused = tt
 built_err text settled (Err e) refused = λ other. same_err text settled (program_of text) (walks_exact text) e (refused other)

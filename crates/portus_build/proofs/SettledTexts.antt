@@ -1,6 +1,7 @@
 -- Each text is settled, since its reading and its forms are.
 use Rattle.std.proofs.Common.{◌≡◌, ◌⊎◌, inl, inr, ℕ, Bool, true, false, refl, List, Option, Some, None, option_map, if◌then◌else◌, sym, ap, subst, ◌∙◌}
 use Rattle.std.specs.Option.{option_or}
+use Rattle.ccp_base.specs.Outside.{no_memory}
 use Rattle.ccp_base.specs.declared.place.Place.{Place}
 use Rattle.portus_core.specs.Programs.{Form}
 use Rattle.portus_core.specs.Trees.{Nodes}
@@ -23,11 +24,11 @@ use Rattle.portus_build.specs.Texts.{StandsFor, IsMisscoped, IsNotCompiled, IsNo
 use Rattle.portus_build.specs.Settled.{runs_out_of_memory, IsSettled}
 
 -- the definition of compiling has no refusal for lack of memory
-long_for : (b : Bool) (count : ℕ) → (if b then Some (compile.CodeTooLong (shown_count count)) else None) ≡ Some compile.NoMemory → ⊥
+long_for : (b : Bool) (count : ℕ) → (if b then Some (compile.CodeTooLong (shown_count count)) else None) ≡ Some (compile.NoMemory no_memory) → ⊥
 long_for true count e = cc
 long_for false count e = cc
 
-deep_for : (deep : Option Place) (long : Option CompileFault) → (long ≡ Some compile.NoMemory → ⊥) → option_or (option_map compile.TooDeep deep) long ≡ Some compile.NoMemory → ⊥
+deep_for : (deep : Option Place) (long : Option CompileFault) → (long ≡ Some (compile.NoMemory no_memory) → ⊥) → option_or (option_map compile.TooDeep deep) long ≡ Some (compile.NoMemory no_memory) → ⊥
 deep_for (Some place) long never e = cc
 deep_for None long never e = never e
 
@@ -62,24 +63,24 @@ module _ (text : List ℕ) where
   one_refusal (Parse a) (Parse b) h k = ap Parse (read.one_refusal a b h k)
   one_refusal (Parse a) (Scope b) h k = absurd (read.apart k.forms a k.spelled h)
   one_refusal (Parse a) (Compile b) h k = absurd (read.apart k.program.forms a k.program.spelled h)
-  one_refusal (Parse a) NoMemory h k = absurd k
+  one_refusal (Parse a) (NoMemory _) h k = absurd k
   one_refusal (Scope a) (Parse b) h k = absurd (read.apart h.forms b h.spelled k)
   one_refusal (Scope a) (Scope b) h k = ap Scope (misscoped_once a b h k)
   one_refusal (Scope a) (Compile b) h k = absurd (scoped_apart k.form a k.program h)
-  one_refusal (Scope a) NoMemory h k = absurd k
+  one_refusal (Scope a) (NoMemory _) h k = absurd k
   one_refusal (Compile a) (Parse b) h k = absurd (read.apart h.program.forms b h.program.spelled k)
   one_refusal (Compile a) (Scope b) h k = absurd (scoped_apart h.form b h.program k)
   one_refusal (Compile a) (Compile b) h k = ap Compile (uncompiled_once a b h k)
-  one_refusal (Compile a) NoMemory h k = absurd k
-  one_refusal NoMemory right h k = absurd h
+  one_refusal (Compile a) (NoMemory _) h k = absurd k
+  one_refusal (NoMemory _) right h k = absurd h
 
   by_rule : (refusal : BuildFault) → IsNoProgram text refusal → runs_out_of_memory refusal ≡ false
-  by_rule NoMemory h = absurd h
-  by_rule (Parse parse.NoMemory) h = absurd h
+  by_rule (NoMemory _) h = absurd h
+  by_rule (Parse (parse.NoMemory _)) h = absurd h
   by_rule (Parse fault) h = refl
-  by_rule (Scope scope.NoMemory) h = absurd ((settled_forms h.forms).by_rule h.refused)
+  by_rule (Scope (scope.NoMemory _)) h = absurd ((settled_forms h.forms).by_rule h.refused)
   by_rule (Scope fault) h = refl
-  by_rule (Compile compile.NoMemory) h =
+  by_rule (Compile (compile.NoMemory no_memory)) h =
       absurd (deep_for (deep_form h.form) (too_long (form_count h.form)) (long_for _ (form_count h.form)) h.refused)
   by_rule (Compile fault) h = refl
 
@@ -89,7 +90,7 @@ module _ (text : List ℕ) where
   apart form (Compile fault) h k =
       let same : form ≡ k.form = stands_once form k.form h.program k.program in
       let e : Some fault ≡ None = sym k.refused ∙ ap refusal_of (sym same) ∙ h.compiled in cc
-  apart form NoMemory h k = k
+  apart form (NoMemory _) h k = k
 
   abbrev Either : Type 0
   Either = ((form : Form) × IsBuiltFrom text form) ⊎ ((refusal : BuildFault) × IsNoProgram text refusal)

@@ -41,7 +41,7 @@ lexical text (BadNumeral place) h is = h
 lexical text (BadName place) h is = h
 lexical text (Nesting place) h is = h
 lexical text (Unclosed place) h is = h
-lexical text NoMemory h is = absurd (cc)
+lexical text (NoMemory _) h is = absurd (cc)
 
 read_ends : (text : List ℕ) (tokens : List Token) → length text ≤ most_text_bytes → scan Gap first_place 0 text ≡ Ok tokens
     → (end : Result (List Node) ParseFault) → read_lexemes unread (map (lexeme_in text) tokens) ≡ end → EndsAs text end

@@ -22,7 +22,7 @@ parse_name (parse.BadNumeral place) = codes "BadNumeral"
 parse_name (parse.BadName place) = codes "BadName"
 parse_name (parse.Nesting place) = codes "Nesting"
 parse_name (parse.Unclosed place) = codes "Unclosed"
-parse_name parse.NoMemory = codes "NoMemory"
+parse_name (parse.NoMemory _) = codes "NoMemory"
 
 -- its place: a text that is too long has none
 abbrev pub parse_place : ParseFault → Option Place
@@ -33,7 +33,7 @@ parse_place (parse.BadNumeral place) = Some place
 parse_place (parse.BadName place) = Some place
 parse_place (parse.Nesting place) = Some place
 parse_place (parse.Unclosed place) = Some place
-parse_place parse.NoMemory = None
+parse_place (parse.NoMemory _) = None
 
 -- what a program has too many of
 abbrev pub too_many_name : What → List ℕ
@@ -51,7 +51,7 @@ scope_name (scope.Kind place) = codes "Kind"
 scope_name (scope.Misplaced place) = codes "Misplaced"
 scope_name (scope.Micros place) = codes "Micros"
 scope_name (scope.TooMany place what) = too_many_name what
-scope_name scope.NoMemory = codes "NoMemory"
+scope_name (scope.NoMemory _) = codes "NoMemory"
 
 -- its place
 abbrev pub scope_place : ScopeFault → Option Place
@@ -62,7 +62,7 @@ scope_place (scope.Kind place) = Some place
 scope_place (scope.Misplaced place) = Some place
 scope_place (scope.Micros place) = Some place
 scope_place (scope.TooMany place what) = Some place
-scope_place scope.NoMemory = None
+scope_place (scope.NoMemory _) = None
 
 -- a place: its line, a colon and its column
 abbrev pub place_text : Option Place → List ℕ
@@ -73,11 +73,11 @@ place_text (Some place) = codes " at " ⧺ decimal place.line ⧺ codes ":" ⧺ 
 abbrev pub compile_text : CompileFault → List ℕ
 compile_text (compile.TooDeep place) = codes "TooDeep at " ⧺ decimal place.line ⧺ codes ":" ⧺ decimal place.column
 compile_text (compile.CodeTooLong count) = codes "CodeTooLong " ⧺ decimal count
-compile_text compile.NoMemory = codes "NoMemory"
+compile_text (compile.NoMemory _) = codes "NoMemory"
 
 -- why a text is built into no code
 abbrev pub refusal_text : BuildFault → List ℕ
 refusal_text (build.Parse fault) = parse_name fault ⧺ place_text (parse_place fault)
 refusal_text (build.Scope fault) = scope_name fault ⧺ place_text (scope_place fault)
 refusal_text (build.Compile fault) = compile_text fault
-refusal_text build.NoMemory = codes "NoMemory"
+refusal_text (build.NoMemory _) = codes "NoMemory"

@@ -10,12 +10,12 @@ use Rattle.portus_build.specs.Texts.{IsNoProgram, IsBuiltFrom}
 
 -- whether memory ran out, in building or in one of its steps
 abbrev pub runs_out_of_memory : BuildFault → Bool
-runs_out_of_memory NoMemory = true
-runs_out_of_memory (Parse parse.NoMemory) = true
+runs_out_of_memory (NoMemory _) = true
+runs_out_of_memory (Parse (parse.NoMemory _)) = true
 runs_out_of_memory (Parse fault) = false
-runs_out_of_memory (Scope scope.NoMemory) = true
+runs_out_of_memory (Scope (scope.NoMemory _)) = true
 runs_out_of_memory (Scope fault) = false
-runs_out_of_memory (Compile compile.NoMemory) = true
+runs_out_of_memory (Compile (compile.NoMemory _)) = true
 runs_out_of_memory (Compile fault) = false
 
 -- a text stands for one program that is compiled or has one first refusal, which isn't out of memory, and not both

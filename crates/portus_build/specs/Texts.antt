@@ -35,7 +35,7 @@ abbrev pub IsNoProgram : List ℕ → BuildFault → Type 0
 IsNoProgram text (Parse fault) = IsRefused text fault
 IsNoProgram text (Scope fault) = IsMisscoped text fault
 IsNoProgram text (Compile fault) = IsNotCompiled text fault
-IsNoProgram text NoMemory = ⊥
+IsNoProgram text (NoMemory _) = ⊥
 
 -- a text stands for a program that is compiled
 pub record IsBuiltFrom (text : List ℕ) (form : Form) : Type 0 where

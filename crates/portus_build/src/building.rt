@@ -1,5 +1,6 @@
 //! The build of a program's text: read, scoped and compiled, or the text's first refusal.
 ghost use Rattle.std.specs.Prelude.{◌≡◌, ◌≢◌, ◌<◌, ◌≤◌, IfOk, IfErr, MatchResult, Err, Some, length};
+ghost use Rattle.ccp_base.specs.Outside.{no_memory};
 ghost use Rattle.ccp_base.specs.Limits.{most_text_bytes};
 ghost use Rattle.ccp_base.specs.declared.place.Place.{Place};
 ghost use Rattle.portus_core.specs.Programs.{Form};
@@ -26,10 +27,10 @@ pub fn build(alloc: Global, text: &[u8]) -> Result<Built, BuildFault>
     // The answer's program is the one that the text stands for, and a text of a program that is compiled is built.
     ensures found { IfOk result (λ built. IsBuiltFrom text.now (form_of built.program)) }
     ensures only { (form : Form) → IsBuiltFrom text.now form
-        → MatchResult result (λ built. form_of built.program ≡ form) (λ e. e ≡ NoMemory) }
+        → MatchResult result (λ built. form_of built.program ≡ form) (λ e. e ≡ NoMemory no_memory) }
 
     // Each refusal is the text's first one, and a text that has a first refusal is answered by it.
-    ensures refused { IfErr result (λ e. e ≢ NoMemory → IsNoProgram text.now e) }
+    ensures refused { IfErr result (λ e. e ≢ NoMemory no_memory → IsNoProgram text.now e) }
     ensures first { (refusal : BuildFault) → IsNoProgram text.now refusal → RefusesAs result refusal }
 
     // A text that is too long, or has a stray byte, is refused for it with or without memory.

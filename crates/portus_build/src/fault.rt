@@ -2,6 +2,7 @@
 ghost use Rattle.std.specs.Prelude.{◌≡◌};
 ghost use Rattle.portus_build.specs.StepFaults.{parse_fault, scope_fault, compile_fault};
 
+use ccp_base::NoMemory;
 use portus_parser::ParseFault;
 use reg_compiler::CompileFault;
 use scope_types::ScopeFault;
@@ -22,7 +23,7 @@ pub enum BuildFault {
     Compile(CompileFault),
     /// There was no memory left.
     #[error("out of memory")]
-    NoMemory,
+    NoMemory(NoMemory),
 }
 
 impl From<ParseFault> for BuildFault {
@@ -30,7 +31,7 @@ impl From<ParseFault> for BuildFault {
 
     fn from(fault: ParseFault) -> Self {
         match fault {
-            ParseFault::NoMemory => BuildFault::NoMemory,
+            ParseFault::NoMemory(error) => BuildFault::NoMemory(error),
             _ => BuildFault::Parse(fault),
         }
     }
@@ -41,7 +42,7 @@ impl From<ScopeFault> for BuildFault {
 
     fn from(fault: ScopeFault) -> Self {
         match fault {
-            ScopeFault::NoMemory => BuildFault::NoMemory,
+            ScopeFault::NoMemory(error) => BuildFault::NoMemory(error),
             _ => BuildFault::Scope(fault),
         }
     }
@@ -52,7 +53,7 @@ impl From<CompileFault> for BuildFault {
 
     fn from(fault: CompileFault) -> Self {
         match fault {
-            CompileFault::NoMemory => BuildFault::NoMemory,
+            CompileFault::NoMemory(error) => BuildFault::NoMemory(error),
             _ => BuildFault::Compile(fault),
         }
     }

@@ -24,7 +24,7 @@ pub fn put_refusal(alloc: Global, text: &mut Bytes, fault: BuildFault) -> Result
             put_place(alloc, text, scope_place(fault))
         }
         BuildFault::Compile(fault) => put_compile_fault(alloc, text, fault),
-        BuildFault::NoMemory => Ok(text.extend(b"NoMemory")?),
+        BuildFault::NoMemory(_) => Ok(text.extend(b"NoMemory")?),
     }
 }
 
@@ -34,7 +34,7 @@ fn put_compile_fault(alloc: Global, text: &mut Bytes, fault: CompileFault) -> Re
     match fault {
         CompileFault::TooDeep(place) => put_too_deep(alloc, text, place),
         CompileFault::CodeTooLong(count) => put_count(alloc, text, count),
-        CompileFault::NoMemory => Ok(text.extend(b"NoMemory")?),
+        CompileFault::NoMemory(_) => Ok(text.extend(b"NoMemory")?),
     }
 }
 
@@ -82,7 +82,7 @@ fn parse_name(fault: ParseFault) -> &'static str
         ParseFault::BadName(_) => "BadName",
         ParseFault::Nesting(_) => "Nesting",
         ParseFault::Unclosed(_) => "Unclosed",
-        ParseFault::NoMemory => "NoMemory",
+        ParseFault::NoMemory(_) => "NoMemory",
     }
 }
 
@@ -90,7 +90,7 @@ fn parse_place(fault: ParseFault) -> Option<Place>
     ensures { result ≡ parse_place fault }
 {
     match fault {
-        ParseFault::SourceTooLong | ParseFault::NoMemory => None,
+        ParseFault::SourceTooLong | ParseFault::NoMemory(_) => None,
         ParseFault::NotText(place) => Some(place),
         ParseFault::Unexpected(place) => Some(place),
         ParseFault::BadNumeral(place) => Some(place),
@@ -111,7 +111,7 @@ fn scope_name(fault: ScopeFault) -> &'static str
         ScopeFault::Misplaced(_) => "Misplaced",
         ScopeFault::Micros(_) => "Micros",
         ScopeFault::TooMany(_, what) => too_many_name(what),
-        ScopeFault::NoMemory => "NoMemory",
+        ScopeFault::NoMemory(_) => "NoMemory",
     }
 }
 
@@ -137,6 +137,6 @@ fn scope_place(fault: ScopeFault) -> Option<Place>
         ScopeFault::Misplaced(place) => Some(place),
         ScopeFault::Micros(place) => Some(place),
         ScopeFault::TooMany(place, _) => Some(place),
-        ScopeFault::NoMemory => None,
+        ScopeFault::NoMemory(_) => None,
     }
 }

@@ -1,5 +1,6 @@
 //! What a program keeps between acknowledgements, the result of one, and why a program isn't started.
 ghost use Rattle.std.specs.Prelude.{◌≡◌, IfOk};
+ghost use Rattle.ccp_base.specs.Outside.{no_memory};
 
 use ccp_base::{FaultKind, NoMemory, Numbers, Place, Values};
 use std::alloc::{AllocError, Global};
@@ -59,15 +60,15 @@ pub enum StartFault {
     /// The pair at this place of the values, counted from 0, is the first that names a control variable which
     /// the program doesn't have.
     BadRegister(u32),
-    NoMemory,
+    NoMemory(NoMemory),
 }
 
 impl From<AllocError> for StartFault {
     ghost use Rattle.portus_core.specs.declared.env.StartFault.TheVariants.{NoMemory};
 
-    ghost from_gives = { λ _ e. e ≡ NoMemory };
+    ghost from_gives = { λ _ e. e ≡ NoMemory no_memory };
 
-    fn from(_e: AllocError) -> Self {
-        StartFault::NoMemory
+    fn from(error: AllocError) -> Self {
+        StartFault::NoMemory(NoMemory::from(error))
     }
 }

@@ -36,6 +36,6 @@ AreTokens-only text tokens others h are = let e = scan-lexemes text are.lexemes 
 
 pub HasCause-from_scan : (text : List ℕ) (fault : LexFault) → EndsScan (scan Gap first_place 0 text) fault → HasCause text fault
 HasCause-from_scan text (NotText place) h = stray_of-Err text place h
-HasCause-from_scan text NoMemory h = tt
+HasCause-from_scan text (NoMemory _) h = tt
 
 pub ruleset exact = (AreTokens-from_scan, stray_of-Ok, HasCause-from_scan)

@@ -56,9 +56,9 @@ scan within at i (b ∷ rest) =
 -- a fault of the scan at this place
 abbrev pub FaultsAt : Place → Bool → LexFault → Type 0
 FaultsAt at refused (NotText place) = (place ≡ at) × IsTrue refused
-FaultsAt at refused NoMemory = Unit {0}
+FaultsAt at refused (NoMemory _) = Unit {0}
 
 -- a fault whose cause is the scan's outcome
 abbrev pub EndsScan : Result (List Token) Place → LexFault → Type 0
 EndsScan outcome (NotText place) = outcome ≡ Err place
-EndsScan outcome NoMemory = Unit {0}
+EndsScan outcome (NoMemory _) = Unit {0}

@@ -18,4 +18,4 @@ stray_of text = stray_from false first_place text
 -- the cause of a fault: a stray byte at its place
 abbrev pub HasCause : List ℕ → LexFault → Type 0
 HasCause text (NotText place) = stray_of text ≡ Some place
-HasCause text NoMemory = Unit {0}
+HasCause text (NoMemory _) = Unit {0}

@@ -18,7 +18,7 @@ pub fn before_memory(text: &[u8], fault: LexFault) -> LexFault
 {
     match fault {
         LexFault::NotText(_) => fault,
-        LexFault::NoMemory => match first_stray(text) {
+        LexFault::NoMemory(_) => match first_stray(text) {
             Some(place) => LexFault::NotText(place),
             None => fault,
         },

@@ -2,6 +2,7 @@
 use Rattle.std.specs.Prelude.{◌≡◌, ℕ, ◌<◌, ◌≤◌, true, Some, None, ◌⊎◌, Result, Ok, Err, IfOk, IfErr, List, [], length, map}
 use Rattle.std.proofs.Common.{arith, refl, ap, sym, ◌∙◌, subst, append-nil, inl, inr}
 use Rattle.std.proofs.lemmas.Bool.{cases_lt}
+use Rattle.ccp_base.specs.Outside.{no_memory}
 use Rattle.ccp_base.specs.declared.place.Place.{Place}
 use Rattle.portus_core.specs.declared.tree.Source.{Source}
 use Rattle.portus_core.specs.Trees.{Node, Nodes, node_of, collected}
@@ -66,7 +67,7 @@ forms-unique text left right h k =
     sym (collected-listed left) ∙ ap collected lists ∙ collected-listed right
 
 -- out of memory says nothing
-pub exact-memory : (text : List ℕ) → IsExact text (Err NoMemory)
+pub exact-memory : (text : List ℕ) → IsExact text (Err (NoMemory no_memory))
 exact-memory text = record {
   found = tt;
   only = λ forms h. refl;
@@ -82,7 +83,7 @@ first-long text long (BadNumeral place) h = absurd (omega (arith, h.short))
 first-long text long (BadName place) h = absurd (omega (arith, h.short))
 first-long text long (Nesting place) h = absurd (omega (arith, h.short))
 first-long text long (Unclosed place) h = absurd (omega (arith, h.short))
-first-long text long NoMemory h = absurd h
+first-long text long (NoMemory _) h = absurd h
 
 strayed : {X : Type 0} (text : List ℕ) (place : Place) (lexemes : List Lexeme) → stray_of text ≡ Some place → AreLexemesOf text lexemes → X
 strayed text place lexemes h k = let none = no_stray text lexemes k in absurd (cc)
@@ -95,7 +96,7 @@ first-stray text place short stray (BadNumeral other) h = strayed text place h.l
 first-stray text place short stray (BadName other) h = strayed text place h.lexemes stray h.divided
 first-stray text place short stray (Nesting other) h = strayed text place h.lexemes stray h.divided
 first-stray text place short stray (Unclosed other) h = strayed text place h.lexemes stray h.divided
-first-stray text place short stray NoMemory h = absurd h
+first-stray text place short stray (NoMemory _) h = absurd h
 
 pub exact-stray : (text : List ℕ) (place : Place) → length text ≤ 65536 → stray_of text ≡ Some place → IsExact text (Err (NotText place))
 exact-stray text place short stray = record {
@@ -114,7 +115,7 @@ first-lexical text lexemes short h (BadNumeral place) k = refuses_once text lexe
 first-lexical text lexemes short h (BadName place) k = refuses_once text lexemes (BadName place) h k
 first-lexical text lexemes short h (Nesting place) k = refuses_once text lexemes (Nesting place) h k
 first-lexical text lexemes short h (Unclosed place) k = refuses_once text lexemes (Unclosed place) h k
-first-lexical text lexemes short h NoMemory k = absurd k
+first-lexical text lexemes short h (NoMemory _) k = absurd k
 
 exact-found : (text : List ℕ) (lexemes : List Lexeme) (source : Source) → length text ≤ 65536 → AreLexemesOf text lexemes → read_lexemes unread lexemes ≡ Ok (map node_of source.forms.items) → IsExact text (Ok source)
 exact-found text lexemes source short h k = record {
@@ -135,7 +136,7 @@ is_refused text lexemes short h (BadNumeral place) e lexical = record { short = 
 is_refused text lexemes short h (BadName place) e lexical = record { short = short; lexemes = lexemes; divided = h; first = e }
 is_refused text lexemes short h (Nesting place) e lexical = record { short = short; lexemes = lexemes; divided = h; first = e }
 is_refused text lexemes short h (Unclosed place) e lexical = record { short = short; lexemes = lexemes; divided = h; first = e }
-is_refused text lexemes short h NoMemory e lexical = absurd (cc)
+is_refused text lexemes short h (NoMemory _) e lexical = absurd (cc)
 
 exact-refused : (text : List ℕ) (lexemes : List Lexeme) (fault : ParseFault) → length text ≤ 65536 → AreLexemesOf text lexemes → read_lexemes unread lexemes ≡ Err fault → IsExact text (Err fault)
 exact-refused text lexemes fault short h k =
@@ -154,7 +155,7 @@ exact-refused text lexemes fault short h k =
 
 exact-ended : (text : List ℕ) (lexemes : List Lexeme) (outcome : Result Source ParseFault) → length text ≤ 65536 → AreLexemesOf text lexemes → IfOk outcome (λ source. read_lexemes unread lexemes ≡ Ok (map node_of source.forms.items)) → IfErr outcome (EndsReading (read_lexemes unread lexemes)) → IsExact text outcome
 exact-ended text lexemes (Ok source) short h k e = exact-found text lexemes source short h k
-exact-ended text lexemes (Err NoMemory) short h k e = exact-memory text
+exact-ended text lexemes (Err (NoMemory _)) short h k e = exact-memory text
 exact-ended text lexemes (Err SourceTooLong) short h k e = exact-refused text lexemes SourceTooLong short h e
 exact-ended text lexemes (Err (NotText place)) short h k e = exact-refused text lexemes (NotText place) short h e
 exact-ended text lexemes (Err (Unexpected place)) short h k e = exact-refused text lexemes (Unexpected place) short h e
@@ -174,7 +175,7 @@ exact-read text tokens outcome short are k e =
 -- a text that has no tokens
 pub exact-tokens : (text : List ℕ) (fault : LexFault) (refusal : ParseFault) → length text ≤ 65536 → HasCause text fault → refusal ≡ lex_fault fault → IsExact text (Err refusal)
 exact-tokens text (lex.NotText place) refusal short h e = subst (λ (f : ParseFault). IsExact text (Err f)) (sym e) (exact-stray text place short h)
-exact-tokens text lex.NoMemory refusal short h e = subst (λ (f : ParseFault). IsExact text (Err f)) (sym e) (exact-memory text)
+exact-tokens text (lex.NoMemory _) refusal short h e = subst (λ (f : ParseFault). IsExact text (Err f)) (sym e) (exact-memory text)
 
 -- a refusal of lexemes is the text's first one
 first-refused : (text : List ℕ) (refusal other : ParseFault) → RefusesLexemes text refusal → IsRefused text other → refusal ≡ other
@@ -183,7 +184,7 @@ first-refused text refusal other h k =
     let that = first-lexical text h.lexemes h.short h.divided other k in
     cc
 
-unless : (fault other : ParseFault) → (fault ≡ NoMemory → ⊥) → RefusesAs (Err fault) other → fault ≡ other
+unless : (fault other : ParseFault) → (fault ≡ NoMemory no_memory → ⊥) → RefusesAs (Err fault) other → fault ≡ other
 unless fault other never h = elim h [ inl e ↦ e | inr e ↦ absurd (never e) ]
 
 refusal-unique : (text : List ℕ) (left right : ParseFault) → IsRefused text left → IsRefused text right → left ≡ right
@@ -194,7 +195,7 @@ refusal-unique text (BadNumeral place) right h k = first-refused text (BadNumera
 refusal-unique text (BadName place) right h k = first-refused text (BadName place) right h k
 refusal-unique text (Nesting place) right h k = first-refused text (Nesting place) right h k
 refusal-unique text (Unclosed place) right h k = first-refused text (Unclosed place) right h k
-refusal-unique text NoMemory right h k = absurd h
+refusal-unique text (NoMemory _) right h k = absurd h
 
 spells-apart : (text : List ℕ) (forms : Nodes) (refusal : ParseFault) → Spells text forms → IsRefused text refusal → ⊥
 spells-apart text forms refusal h k =

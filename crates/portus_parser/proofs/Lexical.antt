@@ -21,7 +21,7 @@ is_lexical (BadNumeral place) = true
 is_lexical (BadName place) = true
 is_lexical (Nesting place) = true
 is_lexical (Unclosed place) = true
-is_lexical NoMemory = false
+is_lexical (NoMemory _) = false
 
 abbrev pub lexical_if : Option ParseFault → Bool
 lexical_if None = true

@@ -53,7 +53,7 @@ put_in-Ok place text open_lists parts tree some h =
     ∙ ap (λ (nodes : List Node). Ok (record { opens = stacked [] open_lists; parts = nodes })) (sym (map-append node_of parts (tree ∷ [])))
 
 pub EndsTurn-is : (outcome : Result OpenLists ParseFault) (fault : ParseFault) → outcome ≡ Err fault → EndsTurn outcome fault
-EndsTurn-is outcome NoMemory h = tt
+EndsTurn-is outcome (NoMemory _) h = tt
 EndsTurn-is outcome SourceTooLong h = h
 EndsTurn-is outcome (NotText place) h = h
 EndsTurn-is outcome (Unexpected place) h = h
@@ -75,7 +75,7 @@ read-Err fault [] = refl
 read-Err fault (lexeme ∷ rest) = read-Err fault rest
 
 pub EndsReading-from_turn : (reading : OpenLists) (lexeme : Lexeme) (rest : List Lexeme) (outcome : Result (List Node) ParseFault) (fault : ParseFault) → EndsTurn (reading_after reading lexeme.place lexeme.text) fault → read_lexemes (Ok reading) (lexeme ∷ rest) ≡ outcome → EndsReading outcome fault
-EndsReading-from_turn reading lexeme rest outcome NoMemory h e = tt
+EndsReading-from_turn reading lexeme rest outcome (NoMemory _) h e = tt
 EndsReading-from_turn reading lexeme rest outcome SourceTooLong h e = sym e ∙ ap (λ r. read_lexemes r rest) h ∙ read-Err SourceTooLong rest
 EndsReading-from_turn reading lexeme rest outcome (NotText place) h e = sym e ∙ ap (λ r. read_lexemes r rest) h ∙ read-Err (NotText place) rest
 EndsReading-from_turn reading lexeme rest outcome (Unexpected place) h e = sym e ∙ ap (λ r. read_lexemes r rest) h ∙ read-Err (Unexpected place) rest

@@ -89,9 +89,9 @@ lexeme_in text token = record { place = token.place; start = token.start; text =
 
 -- a fault is the outcome's, or out of memory
 abbrev pub EndsTurn : Result OpenLists ParseFault → ParseFault → Type 0
-EndsTurn outcome NoMemory = Unit {0}
+EndsTurn outcome (NoMemory _) = Unit {0}
 EndsTurn outcome fault = outcome ≡ Err fault
 
 abbrev pub EndsReading : Result (List Node) ParseFault → ParseFault → Type 0
-EndsReading outcome NoMemory = Unit {0}
+EndsReading outcome (NoMemory _) = Unit {0}
 EndsReading outcome fault = outcome ≡ Err fault

@@ -71,4 +71,4 @@ IsRefused text (BadNumeral place) = RefusesLexemes text (BadNumeral place)
 IsRefused text (BadName place) = RefusesLexemes text (BadName place)
 IsRefused text (Nesting place) = RefusesLexemes text (Nesting place)
 IsRefused text (Unclosed place) = RefusesLexemes text (Unclosed place)
-IsRefused text NoMemory = ⊥
+IsRefused text (NoMemory _) = ⊥

@@ -1,9 +1,10 @@
 //! Why a program's text can't be read: the refusals of the lexer and of the parser.
 ghost use Rattle.std.specs.Prelude.{◌≡◌};
+ghost use Rattle.ccp_base.specs.Outside.{no_memory};
 ghost use Rattle.portus_parser.specs.LexFaults.{lex_fault};
 ghost use Rattle.portus_parser.specs.declared.fault.ParseFault.TheVariants.{NoMemory};
 
-use ccp_base::Place;
+use ccp_base::{NoMemory, Place};
 use portus_lexer::LexFault;
 use std::alloc::{AllocError, AllocFailed};
 
@@ -25,22 +26,22 @@ pub enum ParseFault {
     Nesting(Place),
     /// The text leaves a list open. The place is the `(` of the last such list.
     Unclosed(Place),
-    NoMemory,
+    NoMemory(NoMemory),
 }
 
 impl From<AllocError> for ParseFault {
-    ghost from_gives = { λ _ fault. fault ≡ NoMemory };
+    ghost from_gives = { λ _ fault. fault ≡ NoMemory no_memory };
 
-    fn from(_error: AllocError) -> Self {
-        ParseFault::NoMemory
+    fn from(error: AllocError) -> Self {
+        ParseFault::NoMemory(NoMemory::from(error))
     }
 }
 
 impl<T: Drop> From<AllocFailed<T>> for ParseFault {
-    ghost from_gives = { λ _ fault. fault ≡ NoMemory };
+    ghost from_gives = { λ _ fault. fault ≡ NoMemory no_memory };
 
-    fn from(_error: AllocFailed<T>) -> Self {
-        ParseFault::NoMemory
+    fn from(error: AllocFailed<T>) -> Self {
+        ParseFault::NoMemory(NoMemory::from(error))
     }
 }
 
@@ -50,7 +51,7 @@ impl From<LexFault> for ParseFault {
     fn from(fault: LexFault) -> Self {
         match fault {
             LexFault::NotText(place) => ParseFault::NotText(place),
-            LexFault::NoMemory => ParseFault::NoMemory,
+            LexFault::NoMemory(error) => ParseFault::NoMemory(error),
         }
     }
 }

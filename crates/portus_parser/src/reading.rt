@@ -1,6 +1,7 @@
 //! The call of the parser: the forms that a text spells, or the text's first refusal.
 ghost use Rattle.std.specs.Prelude.{◌≡◌, ◌≢◌, ◌<◌, ◌≤◌, IfOk, IfErr, Ok, Err, Some, length, map};
 ghost use Rattle.std.specs.List.{All};
+ghost use Rattle.ccp_base.specs.Outside.{no_memory};
 ghost use Rattle.ccp_base.specs.Limits.{most_text_bytes};
 ghost use Rattle.ccp_base.specs.declared.place.Place.{Place};
 ghost use Rattle.portus_core.specs.Trees.{Nodes, node_of, nodes_of};
@@ -82,7 +83,7 @@ pub fn parse(alloc: Global, text: &[u8]) -> Result<Source, ParseFault>
     ensures only { (forms : Nodes) → Spells text.now forms → ReadsAs result forms }
 
     // Each refusal is the text's first one, and a text that has a first refusal is answered by it.
-    ensures refused { IfErr result (λ fault. fault ≢ NoMemory → IsRefused text.now fault) }
+    ensures refused { IfErr result (λ fault. fault ≢ NoMemory no_memory → IsRefused text.now fault) }
     ensures first { (refusal : ParseFault) → IsRefused text.now refusal → RefusesAs result refusal }
 
     // A text that is too long, or has a stray byte, is refused for it with or without memory.

@@ -1,5 +1,6 @@
 //! The call of the compiler: a program becomes code that simulates it, or is refused.
 ghost use Rattle.std.specs.Prelude.{◌≡◌, ◌≢◌, ◌≤◌, IfOk, IfErr, Err, Some, None, length};
+ghost use Rattle.ccp_base.specs.Outside.{no_memory};
 ghost use Rattle.portus_core.specs.ProgramForm.{form_of};
 ghost use Rattle.reg_compiler.specs.declared.fault.CompileFault.{CompileFault};
 ghost use Rattle.reg_compiler.specs.declared.fault.CompileFault.TheVariants.{NoMemory};
@@ -20,7 +21,7 @@ use std::alloc::Global;
 pub fn compile(alloc: Global, program: Program) -> Result<Built, CompileFault>
     ensures program { IfOk result (λ built. built.program ≡ program) }
     ensures found { IfOk result (λ built. refusal_of (form_of program) ≡ None) }
-    ensures refused { IfErr result (λ e. e ≢ NoMemory → refusal_of (form_of program) ≡ Some e) }
+    ensures refused { IfErr result (λ e. e ≢ NoMemory no_memory → refusal_of (form_of program) ≡ Some e) }
     ensures first { (e : CompileFault) → refusal_of (form_of program) ≡ Some e → result ≡ Err e }
     ensures code { IfOk result (λ built. built.code.code ≡ code_of (form_of program)) }
     ensures places { IfOk result (λ built. built.places ≡ places_of (form_of program)) }

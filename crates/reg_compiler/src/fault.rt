@@ -1,5 +1,7 @@
 //! Why a program isn't compiled: it is too deep or too long, or memory runs out.
-use ccp_base::Place;
+ghost use Rattle.ccp_base.specs.Outside.{no_memory};
+
+use ccp_base::{NoMemory, Place};
 use std::alloc::AllocError;
 
 /// Why a program isn't compiled.
@@ -11,16 +13,16 @@ pub enum CompileFault {
     /// No expression is too deep, and the program's count of instructions, this one, is above 256. A count of 2^64 and
     /// more is shown as 2^64 - 1.
     CodeTooLong(u64),
-    NoMemory,
+    NoMemory(NoMemory),
 }
 
 impl From<AllocError> for CompileFault {
     ghost use Rattle.std.specs.Prelude.{◌≡◌};
     ghost use Rattle.reg_compiler.specs.declared.fault.CompileFault.TheVariants.{NoMemory};
 
-    ghost from_gives = { λ _ e. e ≡ NoMemory };
+    ghost from_gives = { λ _ e. e ≡ NoMemory no_memory };
 
-    fn from(_error: AllocError) -> Self {
-        CompileFault::NoMemory
+    fn from(error: AllocError) -> Self {
+        CompileFault::NoMemory(NoMemory::from(error))
     }
 }

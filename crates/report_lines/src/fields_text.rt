@@ -2,7 +2,7 @@
 ghost use Rattle.std.specs.Prelude.{◌≡◌, ◌++◌, OnOk};
 ghost use Rattle.report_lines.specs.FieldsText.{field_text, fields_text, window_text};
 
-use crate::number::put_labelled;
+use crate::number::{put_labelled, put_number};
 use ccp_base::{Bytes, NoMemory, Values};
 use portus_core::Decl;
 
@@ -34,5 +34,6 @@ fn put_field(text: &mut Bytes, decl: &Decl, value: u64) -> Result<(), NoMemory>
 {
     text.push(b' ')?;
     text.extend(decl.name.as_slice())?;
-    put_labelled(text, b"=", value)
+    text.push(b'=')?;
+    put_number(text, value)
 }

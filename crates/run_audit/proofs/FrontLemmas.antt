@@ -1,7 +1,6 @@
 -- Fronts of texts.
 use Rattle.std.proofs.Common.{◌≡◌, ℕ, Bool, true, false, ◌==◌, Some, None, List, [], ◌∷◌, ◌++◌, refl, ap, ◌∙◌, cond}
 use Rattle.std.proofs.lemmas.Bool.{eqb-true, eq-eqb}
-use Rattle.std.specs.Option.{option_and_then}
 use Rattle.run_audit.specs.Fronts.{text_after}
 
 -- what follows a front is there
@@ -18,14 +17,3 @@ after-is (byte ∷ front) (other ∷ text) rest is = go (after-is front text res
     go : (text_after front text ≡ Some rest → text ≡ front ++ rest) → (b : Bool) → other == byte ≡ b → cond b (text_after front text) None ≡ Some rest → other ∷ text ≡ byte ∷ (front ++ rest)
     go again true same is = let e : other ≡ byte = eqb-true other byte same in λ i. e i ∷ again is i
     go again false same is = absurd (cc)
-
--- a front of two parts
-pub after-both : (first second text : List ℕ) → text_after (first ++ second) text ≡ option_and_then (text_after second) (text_after first text)
-after-both [] second text = refl
-after-both (byte ∷ first) second [] = refl
-after-both (byte ∷ first) second (other ∷ text) = go (other == byte) (after-both first second text)
-  where
-    go : (b : Bool) → text_after (first ++ second) text ≡ option_and_then (text_after second) (text_after first text)
-        → cond b (text_after (first ++ second) text) None ≡ option_and_then (text_after second) (cond b (text_after first text) None)
-    go true again = again
-    go false again = refl

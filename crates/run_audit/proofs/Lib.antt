@@ -6,7 +6,6 @@ pub mod LineReadings
 pub mod FrontLemmas
 pub mod PartLemmas
 pub mod VerdictLemmas
-pub mod LineSteps
 pub mod JudgeSteps
 pub mod NameLemmas
 pub mod WordsLemmas

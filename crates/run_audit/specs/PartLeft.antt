@@ -1,28 +1,16 @@
 -- What of a text is left after a flow's part: the word is read off, the flow is worked out, and its lines are compared.
 use Rattle.std.specs.Prelude.{ℕ, ◌+◌, Option, Some, None, option_map, unwrap_or, List, [], ◌∷◌}
-use Rattle.ccp_base.specs.Text.{◌⧺◌}
 use Rattle.flow_core.specs.declared.case.Case.{Case}
 use Rattle.flow_core.specs.declared.letter.Letter.{Letter}
 use Rattle.reg_compiler.specs.Sources.{Sources}
-use Rattle.flow_core.specs.LiveText.{Account, flow_from, flow_line, epoch_lines, fault_lines, ticket_lines, account_end_line}
+use Rattle.flow_core.specs.LiveText.{Account, flow_from, flow_line}
+pub use Rattle.live_lines.specs.FlowParts.{body_text}
 use Rattle.source_flow.specs.SourceAccounts.{account_after}
 use Rattle.run_audit.specs.declared.verdict.Verdict.{Verdict}
 use Rattle.run_audit.specs.declared.verdict.Verdict.TheVariants.{Yes, No}
 use Rattle.run_audit.specs.Fronts.{text_after}
 use Rattle.run_audit.specs.Marks.{text_marks}
 use Rattle.run_audit.specs.ForcedWord.{forced_word}
-
--- an account's lines from its tickets on
-abbrev pub text_from_tickets : Sources → Account → List ℕ
-text_from_tickets sources account = ticket_lines sources 0 account.tickets ⧺ account_end_line sources account
-
--- those from its faults on
-abbrev pub text_from_faults : Sources → Account → List ℕ
-text_from_faults sources account = fault_lines account.faults ⧺ text_from_tickets sources account
-
--- those from its epochs on, which are all after its flow's first line
-abbrev pub body_text : Sources → Account → List ℕ
-body_text sources account = epoch_lines 0 account.epochs ⧺ text_from_faults sources account
 
 -- what of this is left after an account's lines
 abbrev pub account_left : Sources → List ℕ → Option Account → Option (List ℕ)

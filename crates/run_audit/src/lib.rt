@@ -1,12 +1,11 @@
 //! A judge of printed live runs: whether a text is the live text of a scenario by the meaning of its programs' sources.
 #![tactic(auto)]
 
-mod account_lines;
-mod body;
 mod forced_word;
 mod fronts;
 mod judge;
 mod laws;
+mod lines;
 mod mark;
 mod part;
 mod read_marks;

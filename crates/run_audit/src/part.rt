@@ -5,9 +5,8 @@ ghost use Rattle.source_flow.specs.Sourced.{IsSourced};
 ghost use Rattle.run_audit.specs.Fronts.{bytes_found};
 ghost use Rattle.run_audit.specs.PartLeft.{part_left};
 
-use crate::account_lines::strip_flow;
-use crate::body::strip_body;
 use crate::forced_word::forced_word;
+use crate::lines::{strip_body, strip_flow};
 use crate::read_marks::read_marks;
 use ccp_base::NoMemory;
 use flow_core::Case;

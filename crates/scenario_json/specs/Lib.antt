@@ -11,3 +11,4 @@ pub mod RefusalText
 pub mod MemberFaults
 -- those that only private contracts cite
 pub mod ParsedScenes
+pub mod Readers

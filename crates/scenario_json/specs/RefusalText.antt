@@ -13,7 +13,7 @@ trace_text (trace.BadLine line) = codes "BadLine " ⧺ decimal line
 trace_text trace.EmptyTrace = codes "EmptyTrace"
 trace_text (trace.NotRising line) = codes "NotRising " ⧺ decimal line
 trace_text trace.ZeroPeriod = codes "ZeroPeriod"
-trace_text trace.NoMemory = codes "NoMemory"
+trace_text (trace.NoMemory _) = codes "NoMemory"
 
 -- why a text is no scenario
 abbrev pub refusal_text : SceneFault → List ℕ
@@ -24,4 +24,4 @@ refusal_text (Range path) = codes "range " ⧺ path
 refusal_text (Program name fault) = codes "program " ⧺ name ⧺ codes " " ⧺ build.refusal_text fault
 refusal_text (Trace name fault) = codes "trace " ⧺ name ⧺ codes " " ⧺ trace_text fault
 refusal_text Totals = codes "totals"
-refusal_text NoMemory = codes "NoMemory"
+refusal_text (NoMemory _) = codes "NoMemory"

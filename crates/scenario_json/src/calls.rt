@@ -2,6 +2,7 @@
 //! the generated one.
 ghost use Rattle.std.specs.Prelude.{◌≡◌, ◌≢◌, ◌≤◌, IfOk, IfErr, Ok, Err, length, map};
 ghost use Rattle.std.specs.List.{All};
+ghost use Rattle.ccp_base.specs.Outside.{no_memory};
 ghost use Rattle.serde_json.specs.View.{view};
 ghost use Rattle.ccp_base.specs.Chaining.{then_do};
 ghost use Rattle.ccp_base.specs.Limits.{most_flows, most_queue, most_quantum_us, most_rounds};
@@ -48,7 +49,7 @@ pub fn scenario(alloc: Global, text: &[u8], mode: SceneMode) -> Result<Scenario,
     // The answer is the scene of the text, and each refusal the text's first one.
     ensures found { IfOk result (λ s.
         scene_of mode text.now ≡ Ok (scene_with (sources_of s.programs) (map plan_of s.cases))) }
-    ensures refused { IfErr result (λ e. e ≢ fault.NoMemory → scene_of mode text.now ≡ Err e) }
+    ensures refused { IfErr result (λ e. e ≢ fault.NoMemory no_memory → scene_of mode text.now ≡ Err e) }
 
     // The programs' numbers are their places, from 0 on.
     ensures numbered { IfOk result (λ s. AreNumberedFrom 0 s.programs) }
@@ -95,7 +96,7 @@ pub fn soak(alloc: Global, number: u32) -> Result<Scenario, NoMemory>
 pub fn rollout_scene(alloc: Global, text: &[u8]) -> Result<OpenCases, SceneFault>
     // The answer is what the text says, and each refusal the text's first one.
     ensures found { IfOk result (λ cases. rollout_of text.now ≡ Ok (map open_plan_of cases)) }
-    ensures refused { IfErr result (λ e. e ≢ fault.NoMemory → rollout_of text.now ≡ Err e) }
+    ensures refused { IfErr result (λ e. e ≢ fault.NoMemory no_memory → rollout_of text.now ≡ Err e) }
 
     // Case i is flow i.
     ensures flows { IfOk result (λ cases. AreOpenFlowsFrom 0 cases) }
@@ -115,7 +116,7 @@ fn shared_parts(alloc: Global, whole: &Value) -> Result<(ParsedScene, Shares), S
     ensures queue { IfOk result (λ both. (1 ≤ both.1.queue) × (both.1.queue ≤ most_queue)) }
     ensures quantum_us { IfOk result (λ both. (1 ≤ both.1.quantum_us) × (both.1.quantum_us ≤ most_quantum_us)) }
     ensures rounds { IfOk result (λ both. (1 ≤ both.1.rounds) × (both.1.rounds ≤ most_rounds)) }
-    ensures err { IfErr result (λ e. e ≢ fault.NoMemory
+    ensures err { IfErr result (λ e. e ≢ fault.NoMemory no_memory
         → then_do (parts_in modes.Shared (view whole.now)) (λ parts.
         then_do (in_scene (shares_in parts.traces (view whole.now))) (λ shares. Ok (shared_of parts shares))) ≡ Err e) }
 {
@@ -132,7 +133,7 @@ pub fn shared_scene(alloc: Global, text: &[u8]) -> Result<SharedScene, SceneFaul
     // The answer is the scene of the text with its link, and each refusal the text's first one.
     ensures found { IfOk result (λ s. shared_scene_of text.now
         ≡ Ok (shared_with (scene_with (sources_of s.scene.programs) (map plan_of s.scene.cases)) s.link s.rounds)) }
-    ensures refused { IfErr result (λ e. e ≢ fault.NoMemory → shared_scene_of text.now ≡ Err e) }
+    ensures refused { IfErr result (λ e. e ≢ fault.NoMemory no_memory → shared_scene_of text.now ≡ Err e) }
 
     // The programs' numbers are their places, from 0 on.
     ensures numbered { IfOk result (λ s. AreNumberedFrom 0 s.scene.programs) }

@@ -131,7 +131,7 @@ fn trace_at(alloc: Global, choice: u64) -> Result<Trace, NoMemory>
 {
     match Trace::read(alloc, text_at(choice)) {
         Ok(trace) => Ok(trace),
-        Err(TraceFault::NoMemory) => Err(NoMemory),
+        Err(TraceFault::NoMemory(error)) => Err(error),
         Err(_) => unreachable!(),
     }
 }

@@ -1,4 +1,6 @@
 //! Why a text is no scenario: the first cause, in the order of the text's parts.
+ghost use Rattle.ccp_base.specs.Outside.{no_memory};
+
 use ccp_base::{Name, NoMemory};
 use link_model::TraceFault;
 use portus_build::BuildFault;
@@ -32,7 +34,7 @@ pub enum SceneFault {
     Totals,
     /// There was no memory left.
     #[error("out of memory")]
-    NoMemory,
+    NoMemory(NoMemory),
 }
 
 impl From<MemberFault> for SceneFault {
@@ -49,7 +51,7 @@ impl From<MemberFault> for SceneFault {
             MemberFault::Range(path) => SceneFault::Range(path),
             MemberFault::Trace(name, fault) => SceneFault::Trace(name, fault),
             MemberFault::Totals => SceneFault::Totals,
-            MemberFault::NoMemory => SceneFault::NoMemory,
+            MemberFault::NoMemory(error) => SceneFault::NoMemory(error),
         }
     }
 }
@@ -58,10 +60,10 @@ impl From<AllocError> for SceneFault {
     ghost use Rattle.std.specs.Prelude.{◌≡◌};
     ghost use Rattle.scenario_json.specs.declared.fault.SceneFault.TheVariants as fault;
 
-    ghost from_gives = { λ _ f. f ≡ fault.NoMemory };
+    ghost from_gives = { λ _ f. f ≡ fault.NoMemory no_memory };
 
-    fn from(_error: AllocError) -> SceneFault {
-        SceneFault::NoMemory
+    fn from(error: AllocError) -> SceneFault {
+        SceneFault::NoMemory(NoMemory::from(error))
     }
 }
 
@@ -69,9 +71,9 @@ impl From<NoMemory> for SceneFault {
     ghost use Rattle.std.specs.Prelude.{◌≡◌};
     ghost use Rattle.scenario_json.specs.declared.fault.SceneFault.TheVariants as fault;
 
-    ghost from_gives = { λ _ f. f ≡ fault.NoMemory };
+    ghost from_gives = { λ _ f. f ≡ fault.NoMemory no_memory };
 
-    fn from(_error: NoMemory) -> SceneFault {
-        SceneFault::NoMemory
+    fn from(error: NoMemory) -> SceneFault {
+        SceneFault::NoMemory(error)
     }
 }

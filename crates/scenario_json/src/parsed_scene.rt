@@ -1,5 +1,5 @@
 //! How a scenario's whole text is parsed: its programs, its traces and its cases.
-ghost use Rattle.std.specs.Prelude.{◌≡◌, ◌≢◌, ◌≤◌, ◌+◌, IfOk, IfErr, Some, None, Ok, Err, length};
+ghost use Rattle.std.specs.Prelude.{◌≡◌, ◌≤◌, ◌+◌, IfOk, Some, None, Ok, length};
 ghost use Rattle.std.specs.List.{All};
 ghost use Rattle.serde_json.specs.View.{view};
 ghost use Rattle.ccp_base.specs.Limits.{most_named_programs};
@@ -13,7 +13,7 @@ ghost use Rattle.scenario_json.specs.Cases.{AreNumberedFrom};
 ghost use Rattle.scenario_json.specs.ParsedScenes.{parts_said, programs_said};
 ghost use Rattle.scenario_json.specs.Scene.{parts_in};
 ghost use Rattle.scenario_json.specs.ScenePrograms.{all_programs};
-ghost use Rattle.scenario_json.specs.declared.fault.SceneFault.TheVariants as fault;
+ghost use Rattle.scenario_json.specs.Readers.{Gives};
 
 use crate::fault::SceneFault;
 use crate::scene_programs::{SceneProgramList, built_ins, programs_in};
@@ -49,13 +49,11 @@ fn unnamed_programs(alloc: Global) -> Result<SceneProgramList, NoMemory>
 
 /// The programs of a scenario whose member `programs` is this.
 fn named_programs(alloc: Global, value: &Value) -> Result<SceneProgramList, SceneFault>
-    ensures ok { IfOk result (λ p. all_programs (Some (view value.now)) ≡ Ok (programs_said p)) }
+    ensures walk { Gives programs_said result (all_programs (Some (view value.now))) }
     ensures numbered { IfOk result (λ p. AreNumberedFrom 0 p.builts) }
     ensures compiled { IfOk result (λ p. AreCompiled p.builts) }
     ensures count { IfOk result (λ p. length p.builts ≡ length p.names + built_in_count) }
     ensures few { IfOk result (λ p. length p.names ≤ most_named_programs) }
-    ensures err { IfErr result (λ e. e ≢ fault.NoMemory
-        → all_programs (Some (view value.now)) ≡ Err e) }
 {
     let members = named_members(alloc, value)?;
     programs_in(alloc, members)
@@ -63,13 +61,11 @@ fn named_programs(alloc: Global, value: &Value) -> Result<SceneProgramList, Scen
 
 /// All programs of a scenario.
 fn all_programs(alloc: Global, whole: &Value) -> Result<SceneProgramList, SceneFault>
-    ensures ok { IfOk result (λ p. all_programs (member_of key.Programs (view whole.now)) ≡ Ok (programs_said p)) }
+    ensures walk { Gives programs_said result (all_programs (member_of key.Programs (view whole.now))) }
     ensures numbered { IfOk result (λ p. AreNumberedFrom 0 p.builts) }
     ensures compiled { IfOk result (λ p. AreCompiled p.builts) }
     ensures count { IfOk result (λ p. length p.builts ≡ length p.names + built_in_count) }
     ensures few { IfOk result (λ p. length p.names ≤ most_named_programs) }
-    ensures err { IfErr result (λ e. e ≢ fault.NoMemory
-        → all_programs (member_of key.Programs (view whole.now)) ≡ Err e) }
 {
     match member(whole, Key::Programs) {
         Some(value) => named_programs(alloc, value),
@@ -83,12 +79,11 @@ pub(crate) fn parsed_scene(
     mode: SceneMode,
     whole: &Value,
 ) -> Result<ParsedScene, SceneFault>
-    ensures ok { IfOk result (λ d. parts_in mode (view whole.now) ≡ Ok (parts_said d)) }
+    ensures walk { Gives parts_said result (parts_in mode (view whole.now)) }
     ensures numbered { IfOk result (λ d. AreNumberedFrom 0 d.programs.builts) }
     ensures compiled { IfOk result (λ d. AreCompiled d.programs.builts) }
     ensures within { IfOk result (λ d. All (IsPlan (length d.programs.builts)) d.plans) }
     ensures count { IfOk result (λ d. length d.plans ≤ most_cases_of mode) }
-    ensures err { IfErr result (λ e. e ≢ fault.NoMemory → parts_in mode (view whole.now) ≡ Err e) }
 {
     opening(alloc, whole)?;
     let programs = all_programs(alloc, whole)?;

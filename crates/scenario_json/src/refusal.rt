@@ -24,7 +24,7 @@ pub fn put_scene_refusal(
         SceneFault::Program(name, fault) => put_program(alloc, text, *name, *fault),
         SceneFault::Trace(name, fault) => put_trace(alloc, text, *name, *fault),
         SceneFault::Totals => Ok(text.extend(b"totals")?),
-        SceneFault::NoMemory => Ok(text.extend(b"NoMemory")?),
+        SceneFault::NoMemory(_) => Ok(text.extend(b"NoMemory")?),
     }
 }
 
@@ -67,7 +67,7 @@ fn put_trace_fault(alloc: Global, text: &mut Bytes, fault: TraceFault) -> Result
         TraceFault::EmptyTrace => Ok(text.extend(b"EmptyTrace")?),
         TraceFault::NotRising(line) => put_line(alloc, text, b"NotRising ", line),
         TraceFault::ZeroPeriod => Ok(text.extend(b"ZeroPeriod")?),
-        TraceFault::NoMemory => Ok(text.extend(b"NoMemory")?),
+        TraceFault::NoMemory(_) => Ok(text.extend(b"NoMemory")?),
     }
 }
 

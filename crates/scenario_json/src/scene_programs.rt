@@ -1,6 +1,6 @@
 //! The programs of a scenario: the built-in ones, and those that it names and that are built from texts.
 ghost use Rattle.std.specs.Prelude.{◌≡◌, ◌≢◌, ◌≤◌, ◌<◌, ◌+◌, ◌++◌, ◌∷◌, [], IfOk, IfErr, OnOk, Ok, Err, length};
-ghost use Rattle.std.specs.Prelude.{option_map};
+ghost use Rattle.ccp_base.specs.Outside.{no_memory};
 ghost use Rattle.serde_json.specs.View.{view, members_view};
 ghost use Rattle.serde_json.specs.Events.{members_len};
 ghost use Rattle.ccp_base.specs.Limits.{most_named_programs};
@@ -14,7 +14,7 @@ ghost use Rattle.scene_core.specs.CompiledPrograms.{IsCompiled, AreCompiled};
 ghost use Rattle.scenario_json.specs.ScenePrograms.{named_program, programs_from, programs_in};
 ghost use Rattle.reg_compiler.specs.Sources.{sources_of};
 ghost use Rattle.scenario_json.specs.ScenePrograms.{built_in, built_ins, names_of};
-ghost use Rattle.scenario_json.specs.declared.fault.SceneFault.TheVariants as fault;
+ghost use Rattle.scenario_json.specs.Readers.{Gives};
 
 use crate::fault::SceneFault;
 use agent_core::BUILT_INS;
@@ -43,7 +43,7 @@ pub(crate) struct SceneProgramList {
 fn build_text(alloc: Global, text: &[u8]) -> Result<Built, BuildFault>
     ensures ok { IfOk result (λ b. program_of text.now ≡ Ok (form_of b.program)) }
     ensures compiled { IfOk result IsCompiled }
-    ensures err { IfErr result (λ e. e ≢ build_fault.NoMemory → program_of text.now ≡ Err e) }
+    ensures err { IfErr result (λ e. e ≢ build_fault.NoMemory no_memory → program_of text.now ≡ Err e) }
 {
     build(alloc, text)
 }
@@ -58,7 +58,7 @@ fn built_in(alloc: Global, number: u32) -> Result<Built, NoMemory>
 {
     match build_text(alloc, builtin(number)) {
         Ok(built) => Ok(built),
-        Err(BuildFault::NoMemory) => Err(NoMemory),
+        Err(BuildFault::NoMemory(error)) => Err(error),
         Err(_) => unreachable!(),
     }
 }
@@ -92,10 +92,9 @@ pub(crate) fn built_ins(alloc: Global) -> Result<Builts, NoMemory>
 }
 
 fn named_program(alloc: Global, name: &str, value: &Value) -> Result<NamedProgram, SceneFault>
-    ensures ok { IfOk result (λ p. named_program name.now (view value.now) ≡ Ok (form_of p.built.program)) }
+    ensures walk { Gives (λ p. form_of p.built.program) result (named_program name.now (view value.now)) }
     ensures compiled { IfOk result (λ p. IsCompiled p.built) }
     ensures name { IfOk result (λ p. p.name ≡ name.now) }
-    ensures err { IfErr result (λ e. e ≢ fault.NoMemory → named_program name.now (view value.now) ≡ Err e) }
 {
     let named = named_text(alloc, Key::Programs, name, value)?;
     match build_text(alloc, named.text.as_bytes()) {
@@ -103,7 +102,7 @@ fn named_program(alloc: Global, name: &str, value: &Value) -> Result<NamedProgra
             name: named.name,
             built,
         }),
-        Err(BuildFault::NoMemory) => Err(SceneFault::NoMemory),
+        Err(BuildFault::NoMemory(error)) => Err(SceneFault::NoMemory(error)),
         Err(fault) => Err(SceneFault::Program(named.name, fault)),
     }
 }
@@ -119,15 +118,13 @@ fn put_programs(
     requires numbered { AreNumberedFrom 0 builts.old }
     requires compiled { AreCompiled builts.old }
     requires count { length builts.old ≡ length names.old + built_in_count }
-    ensures ok { OnOk result
-        (programs_from (sources_of builts.old) (members_view members.now.entries) ≡ Ok (sources_of builts.new)) }
+    ensures walk { Gives (λ _. sources_of builts.new) result
+        (programs_from (sources_of builts.old) (members_view members.now.entries)) }
     ensures names { OnOk result (names.new ≡ names.old ++ names_of (members_view members.now.entries)) }
     ensures numbered { OnOk result (AreNumberedFrom 0 builts.new) }
     ensures compiled { OnOk result (AreCompiled builts.new) }
     ensures count { OnOk result (length builts.new ≡ length names.new + built_in_count) }
     ensures few { OnOk result (length names.new ≤ most_named_programs) }
-    ensures err { IfErr result (λ e. e ≢ fault.NoMemory
-        → programs_from (sources_of builts.old) (members_view members.now.entries) ≡ Err e) }
 {
     for (name, value) in members.iter() {
         let NamedProgram { name, built } = named_program(alloc, name.as_str(), value)?;
@@ -144,13 +141,12 @@ pub(crate) fn programs_in(
     members: &Map<String, Value>,
 ) -> Result<SceneProgramList, SceneFault>
     requires { members_len (members_view members.now.entries) ≤ most_named_programs }
-    ensures ok { IfOk result (λ p. programs_in (members_view members.now.entries) ≡ Ok (sources_of p.builts)) }
+    ensures walk { Gives (λ p. sources_of p.builts) result (programs_in (members_view members.now.entries)) }
     ensures names { IfOk result (λ p. p.names ≡ names_of (members_view members.now.entries)) }
     ensures numbered { IfOk result (λ p. AreNumberedFrom 0 p.builts) }
     ensures compiled { IfOk result (λ p. AreCompiled p.builts) }
     ensures count { IfOk result (λ p. length p.builts ≡ length p.names + built_in_count) }
     ensures few { IfOk result (λ p. length p.names ≤ most_named_programs) }
-    ensures err { IfErr result (λ e. e ≢ fault.NoMemory → programs_in (members_view members.now.entries) ≡ Err e) }
 {
     let mut names = Sequence::new(alloc);
     let mut builts = built_ins(alloc)?;

@@ -15,3 +15,5 @@ pub mod CaseWalk
 pub mod CaseLists
 pub mod Paths
 pub mod SceneNames
+-- those that only private contracts cite
+pub mod Readers

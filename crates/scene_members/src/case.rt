@@ -1,5 +1,5 @@
 //! How a scenario's cases are read: name, agent, trace, and the other members of each.
-ghost use Rattle.std.specs.Prelude.{◌≡◌, ◌≢◌, ◌≤◌, ◌+◌, IfOk, IfErr, Ok, Err, [], length};
+ghost use Rattle.std.specs.Prelude.{◌≡◌, ◌≤◌, ◌+◌, IfOk, length};
 ghost use Rattle.std.specs.List.{All};
 ghost use Rattle.serde_json.specs.View.{view};
 ghost use Rattle.ccp_base.specs.Limits.{most_named_programs};
@@ -9,7 +9,7 @@ ghost use Rattle.scene_members.specs.CaseWalk.{plan_in};
 ghost use Rattle.scene_members.specs.CaseLists.{plans_in};
 ghost use Rattle.scene_members.specs.Traces.{table_of};
 ghost use Rattle.scene_members.specs.Plans.{IsPlan, IsStart};
-ghost use Rattle.scene_members.specs.declared.fault.MemberFault.TheVariants as fault;
+ghost use Rattle.scene_members.specs.Readers.{Gives};
 
 use crate::case_losses::loss_plan;
 use crate::case_numbers::{agent_numbers, case_start, link_numbers};
@@ -29,8 +29,7 @@ use serde_json::Value;
 use std::alloc::Global;
 
 pub(crate) fn case_name(alloc: Global, i: usize, whole: &Value) -> Result<Name, MemberFault>
-    ensures ok { IfOk result (λ n. case_name i (view whole.now) ≡ Ok n) }
-    ensures err { IfErr result (λ e. e ≢ fault.NoMemory → case_name i (view whole.now) ≡ Err e) }
+    ensures { Gives (λ n. n) result (case_name i (view whole.now)) }
 {
     let place = JsonPlace::In(i, Key::Name);
     let value = needed_member(alloc, place, whole, Key::Name)?;
@@ -39,8 +38,7 @@ pub(crate) fn case_name(alloc: Global, i: usize, whole: &Value) -> Result<Name, 
 
 /// The agent of a case; that of a flow whose agent is outside is Reno, whatever the member is.
 fn case_kind(alloc: Global, mode: SceneMode, i: usize, whole: &Value) -> Result<Kind, MemberFault>
-    ensures ok { IfOk result (λ k. case_kind mode i (view whole.now) ≡ Ok k) }
-    ensures err { IfErr result (λ e. e ≢ fault.NoMemory → case_kind mode i (view whole.now) ≡ Err e) }
+    ensures { Gives (λ k. k) result (case_kind mode i (view whole.now)) }
 {
     // A plan has an agent; a driven flow never asks it.
     if let SceneMode::Driven = mode {
@@ -62,9 +60,7 @@ pub(crate) fn trace_in(
     traces: &Traces,
     value: &Value,
 ) -> Result<Trace, MemberFault>
-    ensures ok { IfOk result (λ t. trace_in place (table_of traces.now.entries) (view value.now) ≡ Ok t) }
-    ensures err { IfErr result (λ e. e ≢ fault.NoMemory
-        → trace_in place (table_of traces.now.entries) (view value.now) ≡ Err e) }
+    ensures { Gives (λ t. t) result (trace_in place (table_of traces.now.entries) (view value.now)) }
 {
     let name = text(alloc, place, value)?;
     match trace_named(traces, name) {
@@ -79,9 +75,7 @@ pub(crate) fn case_trace(
     i: usize,
     whole: &Value,
 ) -> Result<Trace, MemberFault>
-    ensures ok { IfOk result (λ t. case_trace (table_of traces.now.entries) i (view whole.now) ≡ Ok t) }
-    ensures err { IfErr result (λ e. e ≢ fault.NoMemory
-        → case_trace (table_of traces.now.entries) i (view whole.now) ≡ Err e) }
+    ensures { Gives (λ t. t) result (case_trace (table_of traces.now.entries) i (view whole.now)) }
 {
     let place = JsonPlace::In(i, Key::Trace);
     let value = needed_member(alloc, place, whole, Key::Trace)?;
@@ -98,12 +92,10 @@ fn members(
     whole: &Value,
 ) -> Result<Plan, MemberFault>
     requires { length names.now ≤ most_named_programs }
-    ensures ok { IfOk result (λ p.
-        case_members mode names.now (table_of traces.now.entries) i (view whole.now) ≡ Ok p) }
+    ensures walk { Gives (λ p. p) result
+        (case_members mode names.now (table_of traces.now.entries) i (view whole.now)) }
     ensures within { IfOk result (λ p. IsPlan (length names.now + built_in_count) p) }
     ensures start { IfOk result (λ p. IsStart mode p.start_us) }
-    ensures err { IfErr result (λ e. e ≢ fault.NoMemory
-        → case_members mode names.now (table_of traces.now.entries) i (view whole.now) ≡ Err e) }
 {
     let name = case_name(alloc, i, whole)?;
     let kind = case_kind(alloc, mode, i, whole)?;
@@ -134,11 +126,9 @@ fn case_in(
     whole: &Value,
 ) -> Result<Plan, MemberFault>
     requires { length names.now ≤ most_named_programs }
-    ensures ok { IfOk result (λ p. plan_in mode names.now (table_of traces.now.entries) i (view whole.now) ≡ Ok p) }
+    ensures walk { Gives (λ p. p) result (plan_in mode names.now (table_of traces.now.entries) i (view whole.now)) }
     ensures within { IfOk result (λ p. IsPlan (length names.now + built_in_count) p) }
     ensures start { IfOk result (λ p. IsStart mode p.start_us) }
-    ensures err { IfErr result (λ e. e ≢ fault.NoMemory
-        → plan_in mode names.now (table_of traces.now.entries) i (view whole.now) ≡ Err e) }
 {
     object(alloc, JsonPlace::Case(i), whole)?;
     members(alloc, mode, names, traces, i, whole)
@@ -154,12 +144,10 @@ pub(crate) fn cases_from(
     values: &[Value],
 ) -> Result<Plans, MemberFault>
     requires { length names.now ≤ most_named_programs }
-    ensures ok { IfOk result (λ ps. plans_in mode names.now traces.now.entries values.now ≡ Ok ps) }
+    ensures walk { Gives (λ ps. ps) result (plans_in mode names.now traces.now.entries values.now) }
     ensures within { IfOk result (λ ps. All (IsPlan (length names.now + built_in_count)) ps) }
     ensures starts { IfOk result (λ ps. All (λ p. IsStart mode p.start_us) ps) }
     ensures count { IfOk result (λ ps. length ps ≡ length values.now) }
-    ensures err { IfErr result (λ e. e ≢ fault.NoMemory
-        → plans_in mode names.now traces.now.entries values.now ≡ Err e) }
 {
     let mut plans = Sequence::new(alloc);
     let mut rest = values;

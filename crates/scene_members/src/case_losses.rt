@@ -1,12 +1,12 @@
 //! How a case's losses and mark are read.
-ghost use Rattle.std.specs.Prelude.{◌≡◌, ◌≢◌, ◌≤◌, ◌^◌, ◌<◌, IfOk, IfErr, Ok, Err, [], length};
+ghost use Rattle.std.specs.Prelude.{◌≡◌, ◌≤◌, ◌<◌, IfOk, []};
 ghost use Rattle.std.specs.Option.{ForSome};
 ghost use Rattle.std.specs.List.Sorted.{IsStrictlyIncreasing};
 ghost use Rattle.serde_json.specs.View.{view, items_view};
 ghost use Rattle.ccp_base.specs.Limits.{most_mark};
 ghost use Rattle.scene_members.specs.Values.{member_of};
 ghost use Rattle.scene_members.specs.CaseWalk.{loss_above, loss_in, last_of, losses_from, losses_or, mark_or, case_loss_plan};
-ghost use Rattle.scene_members.specs.declared.fault.MemberFault.TheVariants as fault;
+ghost use Rattle.scene_members.specs.Readers.{Gives};
 ghost use Rattle.scene_members.specs.declared.key.Key.TheVariants as key;
 
 use crate::fault::MemberFault;
@@ -25,9 +25,8 @@ fn loss_above(
     before: Option<u32>,
     number: u32,
 ) -> Result<u32, MemberFault>
-    ensures ok { IfOk result (λ n. loss_above place before number ≡ Ok n) }
+    ensures walk { Gives (λ n. n) result (loss_above place before number) }
     ensures above { IfOk result (λ n. ForSome before (λ b. b < n)) }
-    ensures err { IfErr result (λ e. e ≢ fault.NoMemory → loss_above place before number ≡ Err e) }
 {
     match before {
         Some(before) if before >= number => Err(place.wrong_fault(alloc)),
@@ -41,9 +40,8 @@ fn loss(
     before: Option<u32>,
     value: &Value,
 ) -> Result<u32, MemberFault>
-    ensures ok { IfOk result (λ n. loss_in place before (view value.now) ≡ Ok n) }
+    ensures walk { Gives (λ n. n) result (loss_in place before (view value.now)) }
     ensures above { IfOk result (λ n. ForSome before (λ b. b < n)) }
-    ensures err { IfErr result (λ e. e ≢ fault.NoMemory → loss_in place before (view value.now) ≡ Err e) }
 {
     let number = number(alloc, place, Key::Losses, value)?;
     loss_above(alloc, place, before, number as u32)
@@ -57,9 +55,8 @@ fn last_of(numbers: &[u32]) -> Option<u32>
 }
 
 fn losses_from(alloc: Global, i: usize, values: &[Value]) -> Result<Sequence<u32>, MemberFault>
-    ensures ok { IfOk result (λ losses. losses_from i [] (items_view values.now) ≡ Ok losses) }
+    ensures walk { Gives (λ losses. losses) result (losses_from i [] (items_view values.now)) }
     ensures rise { IfOk result IsStrictlyIncreasing }
-    ensures err { IfErr result (λ e. e ≢ fault.NoMemory → losses_from i [] (items_view values.now) ≡ Err e) }
 {
     let mut losses = Sequence::new(alloc);
     let mut rest = values;
@@ -73,9 +70,8 @@ fn losses_from(alloc: Global, i: usize, values: &[Value]) -> Result<Sequence<u32
 }
 
 fn losses_or(alloc: Global, i: usize, whole: &Value) -> Result<Sequence<u32>, MemberFault>
-    ensures ok { IfOk result (λ losses. losses_or i (member_of key.Losses (view whole.now)) ≡ Ok losses) }
+    ensures walk { Gives (λ losses. losses) result (losses_or i (member_of key.Losses (view whole.now))) }
     ensures rise { IfOk result IsStrictlyIncreasing }
-    ensures err { IfErr result (λ e. e ≢ fault.NoMemory → losses_or i (member_of key.Losses (view whole.now)) ≡ Err e) }
 {
     match member(whole, Key::Losses) {
         None => Ok(Sequence::new(alloc)),
@@ -87,9 +83,8 @@ fn losses_or(alloc: Global, i: usize, whole: &Value) -> Result<Sequence<u32>, Me
 }
 
 fn mark_or(alloc: Global, place: JsonPlace, whole: &Value) -> Result<Option<u32>, MemberFault>
-    ensures ok { IfOk result (λ mark. mark_or place (member_of key.Mark (view whole.now)) ≡ Ok mark) }
+    ensures walk { Gives (λ mark. mark) result (mark_or place (member_of key.Mark (view whole.now))) }
     ensures within { IfOk result (λ mark. ForSome mark (λ m. (1 ≤ m) × (m ≤ most_mark))) }
-    ensures err { IfErr result (λ e. e ≢ fault.NoMemory → mark_or place (member_of key.Mark (view whole.now)) ≡ Err e) }
 {
     match member(whole, Key::Mark) {
         None => Ok(None),
@@ -102,10 +97,9 @@ fn mark_or(alloc: Global, place: JsonPlace, whole: &Value) -> Result<Option<u32>
 
 /// Which packets are lost and marked.
 pub(crate) fn loss_plan(alloc: Global, i: usize, whole: &Value) -> Result<LossPlan, MemberFault>
-    ensures ok { IfOk result (λ f. case_loss_plan i (view whole.now) ≡ Ok f) }
+    ensures walk { Gives (λ f. f) result (case_loss_plan i (view whole.now)) }
     ensures rise { IfOk result (λ f. IsStrictlyIncreasing f.losses) }
     ensures within { IfOk result (λ f. ForSome f.mark (λ m. (1 ≤ m) × (m ≤ most_mark))) }
-    ensures err { IfErr result (λ e. e ≢ fault.NoMemory → case_loss_plan i (view whole.now) ≡ Err e) }
 {
     let losses = losses_or(alloc, i, whole)?;
     let mark = mark_or(alloc, JsonPlace::In(i, Key::Mark), whole)?;

@@ -1,10 +1,10 @@
 //! How a case's numbers are read, with the defaults for slots, lag and start.
-ghost use Rattle.std.specs.Prelude.{◌≡◌, ◌≢◌, ◌≤◌, IfOk, IfErr, Ok, Err};
+ghost use Rattle.std.specs.Prelude.{◌≤◌, IfOk};
 ghost use Rattle.serde_json.specs.View.{view};
 ghost use Rattle.scene_members.specs.Keys.{least_of, greatest_value};
 ghost use Rattle.scene_members.specs.Plans.{AreLinkNumbers, AreAgentNumbers, IsStart};
 ghost use Rattle.scene_members.specs.CaseWalk.{case_number, case_link_numbers, case_agent_numbers, case_start};
-ghost use Rattle.scene_members.specs.declared.fault.MemberFault.TheVariants as fault;
+ghost use Rattle.scene_members.specs.Readers.{Gives};
 
 use crate::fault::MemberFault;
 use crate::json_place::JsonPlace;
@@ -25,10 +25,9 @@ pub(crate) fn case_number(
     key: Key,
     whole: &Value,
 ) -> Result<u64, MemberFault>
-    ensures ok { IfOk result (λ n. case_number i key (view whole.now) ≡ Ok n) }
+    ensures walk { Gives (λ n. n) result (case_number i key (view whole.now)) }
     ensures least { IfOk result (λ n. least_of key ≤ n) }
     ensures most { IfOk result (λ n. n ≤ greatest_value key) }
-    ensures err { IfErr result (λ e. e ≢ fault.NoMemory → case_number i key (view whole.now) ≡ Err e) }
 {
     needed_number(alloc, JsonPlace::In(i, key), whole, key)
 }
@@ -39,9 +38,8 @@ pub(crate) fn link_numbers(
     i: usize,
     whole: &Value,
 ) -> Result<LinkNumbers, MemberFault>
-    ensures ok { IfOk result (λ m. case_link_numbers i (view whole.now) ≡ Ok m) }
+    ensures walk { Gives (λ m. m) result (case_link_numbers i (view whole.now)) }
     ensures within { IfOk result AreLinkNumbers }
-    ensures err { IfErr result (λ e. e ≢ fault.NoMemory → case_link_numbers i (view whole.now) ≡ Err e) }
 {
     let mss = case_number(alloc, i, Key::Mss, whole)?;
     let queue = case_number(alloc, i, Key::Queue, whole)?;
@@ -63,9 +61,8 @@ pub(crate) fn agent_numbers(
     i: usize,
     whole: &Value,
 ) -> Result<AgentNumbers, MemberFault>
-    ensures ok { IfOk result (λ w. case_agent_numbers i (view whole.now) ≡ Ok w) }
+    ensures walk { Gives (λ w. w) result (case_agent_numbers i (view whole.now)) }
     ensures within { IfOk result AreAgentNumbers }
-    ensures err { IfErr result (λ e. e ≢ fault.NoMemory → case_agent_numbers i (view whole.now) ≡ Err e) }
 {
     let slots = number_or(
         alloc,
@@ -88,9 +85,8 @@ pub(crate) fn case_start(
     i: usize,
     whole: &Value,
 ) -> Result<u64, MemberFault>
-    ensures ok { IfOk result (λ n. case_start mode i (view whole.now) ≡ Ok n) }
+    ensures walk { Gives (λ n. n) result (case_start mode i (view whole.now)) }
     ensures within { IfOk result (IsStart mode) }
-    ensures err { IfErr result (λ e. e ≢ fault.NoMemory → case_start mode i (view whole.now) ≡ Err e) }
 {
     match mode {
         SceneMode::Shared => number_or(

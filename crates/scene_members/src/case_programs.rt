@@ -1,12 +1,12 @@
 //! How the names of a case's programs become numbers, and which built-in ones are the defaults.
-ghost use Rattle.std.specs.Prelude.{◌≡◌, ◌≢◌, ◌≤◌, ◌<◌, ◌+◌, IfOk, IfErr, Ok, Err, length, position, bytes_eq};
+ghost use Rattle.std.specs.Prelude.{◌≡◌, ◌≤◌, ◌<◌, ◌+◌, IfOk, length, position, bytes_eq};
 ghost use Rattle.std.specs.Option.{ForSome};
 ghost use Rattle.serde_json.specs.View.{view};
 ghost use Rattle.ccp_base.specs.Limits.{most_named_programs};
 ghost use Rattle.agent_core.specs.Kinds.{built_in_count};
 ghost use Rattle.scene_members.specs.Values.{member_of};
 ghost use Rattle.scene_members.specs.CaseWalk.{program_named, program_or, case_programs};
-ghost use Rattle.scene_members.specs.declared.fault.MemberFault.TheVariants as fault;
+ghost use Rattle.scene_members.specs.Readers.{Gives};
 
 use crate::fault::MemberFault;
 use crate::json_place::JsonPlace;
@@ -53,10 +53,8 @@ fn program_or(
 ) -> Result<u32, MemberFault>
     requires few { length names.now ≤ most_named_programs }
     requires built_in { default < built_in_count }
-    ensures ok { IfOk result (λ n. program_or place names.now default (member_of key (view whole.now)) ≡ Ok n) }
+    ensures walk { Gives (λ n. n) result (program_or place names.now default (member_of key (view whole.now))) }
     ensures within { IfOk result (λ n. n < length names.now + built_in_count) }
-    ensures err { IfErr result (λ e. e ≢ fault.NoMemory
-        → program_or place names.now default (member_of key (view whole.now)) ≡ Err e) }
 {
     let Some(value) = member(whole, key) else {
         return Ok(default);
@@ -79,11 +77,9 @@ pub(crate) fn programs(
     whole: &Value,
 ) -> Result<Programs, MemberFault>
     requires few { length names.now ≤ most_named_programs }
-    ensures ok { IfOk result (λ p. case_programs mode names.now kind i (view whole.now) ≡ Ok p) }
+    ensures walk { Gives (λ p. p) result (case_programs mode names.now kind i (view whole.now)) }
     ensures ss_within { IfOk result (λ p. p.ss < length names.now + built_in_count) }
     ensures ca_within { IfOk result (λ p. p.ca < length names.now + built_in_count) }
-    ensures err { IfErr result (λ e. e ≢ fault.NoMemory
-        → case_programs mode names.now kind i (view whole.now) ≡ Err e) }
 {
     // A plan has programs; a driven flow runs those that its changes name.
     if let SceneMode::Driven = mode {

@@ -1,4 +1,6 @@
 //! Why a member of a scenario isn't read, with the place where it stands.
+ghost use Rattle.ccp_base.specs.Outside.{no_memory};
+
 use ccp_base::{Bytes, Name, NoMemory};
 use link_model::TraceFault;
 use std::alloc::{AllocError, AllocFailed};
@@ -22,17 +24,17 @@ pub enum MemberFault {
     /// The cases have more than 262,144 acknowledgements.
     Totals,
     /// There was no memory left.
-    NoMemory,
+    NoMemory(NoMemory),
 }
 
 impl From<AllocError> for MemberFault {
     ghost use Rattle.std.specs.Prelude.{◌≡◌};
     ghost use Rattle.scene_members.specs.declared.fault.MemberFault.TheVariants as fault;
 
-    ghost from_gives = { λ _ f. f ≡ fault.NoMemory };
+    ghost from_gives = { λ _ f. f ≡ fault.NoMemory no_memory };
 
-    fn from(_error: AllocError) -> MemberFault {
-        MemberFault::NoMemory
+    fn from(error: AllocError) -> MemberFault {
+        MemberFault::NoMemory(NoMemory::from(error))
     }
 }
 
@@ -40,10 +42,10 @@ impl<T: Drop> From<AllocFailed<T>> for MemberFault {
     ghost use Rattle.std.specs.Prelude.{◌≡◌};
     ghost use Rattle.scene_members.specs.declared.fault.MemberFault.TheVariants as fault;
 
-    ghost from_gives = { λ _ f. f ≡ fault.NoMemory };
+    ghost from_gives = { λ _ f. f ≡ fault.NoMemory no_memory };
 
-    fn from(_error: AllocFailed<T>) -> MemberFault {
-        MemberFault::NoMemory
+    fn from(error: AllocFailed<T>) -> MemberFault {
+        MemberFault::NoMemory(NoMemory::from(error))
     }
 }
 
@@ -51,9 +53,9 @@ impl From<NoMemory> for MemberFault {
     ghost use Rattle.std.specs.Prelude.{◌≡◌};
     ghost use Rattle.scene_members.specs.declared.fault.MemberFault.TheVariants as fault;
 
-    ghost from_gives = { λ _ f. f ≡ fault.NoMemory };
+    ghost from_gives = { λ _ f. f ≡ fault.NoMemory no_memory };
 
-    fn from(_error: NoMemory) -> MemberFault {
-        MemberFault::NoMemory
+    fn from(error: NoMemory) -> MemberFault {
+        MemberFault::NoMemory(error)
     }
 }

@@ -1,5 +1,6 @@
 //! Where a value stands in a scenario, with the refusal of a value that is missing, wrong or out of range.
 ghost use Rattle.std.specs.Prelude.{◌≡◌, ◌≢◌, ◌++◌, IfOk, OnOk};
+ghost use Rattle.ccp_base.specs.Outside.{no_memory};
 ghost use Rattle.scene_members.specs.Paths.{path_of, printable, named_path, shown_byte};
 ghost use Rattle.scene_members.specs.declared.fault.MemberFault.TheVariants as fault;
 ghost use Rattle.scene_members.specs.declared.json_place.JsonPlace.TheVariants as places;
@@ -71,31 +72,31 @@ impl JsonPlace {
 
     /// That the value here isn't there.
     pub fn missing_fault(self, alloc: Global) -> MemberFault
-        ensures { result ≢ fault.NoMemory → result ≡ fault.Missing (path_of self) }
+        ensures { result ≢ fault.NoMemory no_memory → result ≡ fault.Missing (path_of self) }
     {
         match self.path(alloc) {
             Ok(path) => MemberFault::Missing(path),
-            Err(NoMemory) => MemberFault::NoMemory,
+            Err(error) => MemberFault::NoMemory(error),
         }
     }
 
     /// That the value here isn't of its kind.
     pub fn wrong_fault(self, alloc: Global) -> MemberFault
-        ensures { result ≢ fault.NoMemory → result ≡ fault.Wrong (path_of self) }
+        ensures { result ≢ fault.NoMemory no_memory → result ≡ fault.Wrong (path_of self) }
     {
         match self.path(alloc) {
             Ok(path) => MemberFault::Wrong(path),
-            Err(NoMemory) => MemberFault::NoMemory,
+            Err(error) => MemberFault::NoMemory(error),
         }
     }
 
     /// That the value here isn't in its range.
     pub fn range_fault(self, alloc: Global) -> MemberFault
-        ensures { result ≢ fault.NoMemory → result ≡ fault.Range (path_of self) }
+        ensures { result ≢ fault.NoMemory no_memory → result ≡ fault.Range (path_of self) }
     {
         match self.path(alloc) {
             Ok(path) => MemberFault::Range(path),
-            Err(NoMemory) => MemberFault::NoMemory,
+            Err(error) => MemberFault::NoMemory(error),
         }
     }
 }
@@ -134,10 +135,10 @@ fn named_path(alloc: Global, key: Key, name: &[u8]) -> Result<Path, NoMemory>
 
 /// That a member which the scenario names by itself has no name, or isn't of its kind.
 pub(crate) fn named_member_fault(alloc: Global, key: Key, name: &[u8]) -> MemberFault
-    ensures { result ≢ fault.NoMemory → result ≡ fault.Wrong (named_path key name.now) }
+    ensures { result ≢ fault.NoMemory no_memory → result ≡ fault.Wrong (named_path key name.now) }
 {
     match named_path(alloc, key, name) {
         Ok(path) => MemberFault::Wrong(path),
-        Err(NoMemory) => MemberFault::NoMemory,
+        Err(error) => MemberFault::NoMemory(error),
     }
 }

@@ -1,9 +1,9 @@
 //! Which names a scenario may give: 1 to 32 letters, digits, `_`, `-` and `.`.
-ghost use Rattle.std.specs.Prelude.{◌≡◌, ◌≢◌, IfOk, IfErr, Ok, Err};
+ghost use Rattle.std.specs.Prelude.{◌≡◌};
 ghost use Rattle.std.specs.List.{list_all};
 ghost use Rattle.serde_json.specs.View.{view};
 ghost use Rattle.scene_members.specs.SceneNames.{is_name_byte, scene_name, name_in};
-ghost use Rattle.scene_members.specs.declared.fault.MemberFault.TheVariants as fault;
+ghost use Rattle.scene_members.specs.Readers.{Gives};
 
 use crate::fault::MemberFault;
 use crate::json_place::JsonPlace;
@@ -40,8 +40,7 @@ pub(crate) fn scene_name(text: &[u8]) -> Option<Name>
 
 /// A value that must be a name.
 pub(crate) fn name(alloc: Global, place: JsonPlace, value: &Value) -> Result<Name, MemberFault>
-    ensures ok { IfOk result (λ n. name_in place (view value.now) ≡ Ok n) }
-    ensures err { IfErr result (λ e. e ≢ fault.NoMemory → name_in place (view value.now) ≡ Err e) }
+    ensures { Gives (λ n. n) result (name_in place (view value.now)) }
 {
     let text = text(alloc, place, value)?;
     match scene_name(text.as_bytes()) {

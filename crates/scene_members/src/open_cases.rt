@@ -1,5 +1,6 @@
 //! How a rollout's cases are read, within their limits.
-ghost use Rattle.std.specs.Prelude.{◌≡◌, ◌≢◌, ◌≤◌, IfOk, IfErr, Ok, Err, [], length, map};
+ghost use Rattle.std.specs.Prelude.{◌≡◌, ◌≢◌, ◌≤◌, IfOk, IfErr, Ok, Err, length, map};
+ghost use Rattle.ccp_base.specs.Outside.{no_memory};
 ghost use Rattle.serde_json.specs.View.{view};
 ghost use Rattle.ccp_base.specs.Limits.{most_flows};
 ghost use Rattle.scene_members.specs.Traces.{table_of};
@@ -7,6 +8,7 @@ ghost use Rattle.scene_members.specs.Rollout.{open_members, open_case_in, open_c
 ghost use Rattle.scene_members.specs.Rollout.{within_open_total, open_plans_in};
 ghost use Rattle.scene_members.specs.OpenCases.{open_plan_of, AreOpenFlowsFrom, texts_of};
 ghost use Rattle.scene_members.specs.CaseLists.{open_plans};
+ghost use Rattle.scene_members.specs.Readers.{Gives};
 ghost use Rattle.scene_members.specs.declared.fault.MemberFault.TheVariants as fault;
 
 use crate::case::{case_name, case_trace};
@@ -36,11 +38,9 @@ fn open_members(
     whole: &Value,
 ) -> Result<OpenCase, MemberFault>
     requires { i ≤ most_flows }
-    ensures ok { IfOk result (λ c.
-        open_members (texts_of texts.now) (table_of traces.now.entries) i (view whole.now) ≡ Ok (open_plan_of c)) }
+    ensures walk { Gives open_plan_of result
+        (open_members (texts_of texts.now) (table_of traces.now.entries) i (view whole.now)) }
     ensures flow { IfOk result (λ c. c.flow ≡ i) }
-    ensures err { IfErr result (λ e. e ≢ fault.NoMemory
-        → open_members (texts_of texts.now) (table_of traces.now.entries) i (view whole.now) ≡ Err e) }
 {
     let name = case_name(alloc, i, whole)?;
     let trace = case_trace(alloc, traces, i, whole)?;
@@ -75,11 +75,9 @@ fn open_case_in(
     whole: &Value,
 ) -> Result<OpenCase, MemberFault>
     requires { i ≤ most_flows }
-    ensures ok { IfOk result (λ c.
-        open_case_in (texts_of texts.now) (table_of traces.now.entries) i (view whole.now) ≡ Ok (open_plan_of c)) }
+    ensures walk { Gives open_plan_of result
+        (open_case_in (texts_of texts.now) (table_of traces.now.entries) i (view whole.now)) }
     ensures flow { IfOk result (λ c. c.flow ≡ i) }
-    ensures err { IfErr result (λ e. e ≢ fault.NoMemory
-        → open_case_in (texts_of texts.now) (table_of traces.now.entries) i (view whole.now) ≡ Err e) }
 {
     object(alloc, JsonPlace::Case(i), whole)?;
     open_members(alloc, texts, traces, i, whole)
@@ -93,10 +91,9 @@ fn open_cases_from(
     values: &[Value],
 ) -> Result<OpenCases, MemberFault>
     requires { length values.now ≤ most_flows }
-    ensures ok { IfOk result (λ cs. open_plans texts.now traces.now.entries values.now ≡ Ok (map open_plan_of cs)) }
+    ensures walk { Gives (λ cs. map open_plan_of cs) result (open_plans texts.now traces.now.entries values.now) }
     ensures flows { IfOk result (λ cs. AreOpenFlowsFrom 0 cs) }
     ensures count { IfOk result (λ cs. length cs ≡ length values.now) }
-    ensures err { IfErr result (λ e. e ≢ fault.NoMemory → open_plans texts.now traces.now.entries values.now ≡ Err e) }
 {
     let mut cases = Sequence::new(alloc);
     let mut rest = values;
@@ -114,12 +111,10 @@ fn open_cases_in(
     traces: &Traces,
     whole: &Value,
 ) -> Result<OpenCases, MemberFault>
-    ensures ok { IfOk result (λ cs.
-        open_cases_in (texts_of texts.now) (table_of traces.now.entries) (view whole.now) ≡ Ok (map open_plan_of cs)) }
+    ensures walk { Gives (λ cs. map open_plan_of cs) result
+        (open_cases_in (texts_of texts.now) (table_of traces.now.entries) (view whole.now)) }
     ensures flows { IfOk result (λ cs. AreOpenFlowsFrom 0 cs) }
     ensures count { IfOk result (λ cs. length cs ≤ most_flows) }
-    ensures err { IfErr result (λ e. e ≢ fault.NoMemory
-        → open_cases_in (texts_of texts.now) (table_of traces.now.entries) (view whole.now) ≡ Err e) }
 {
     let place = JsonPlace::Top(Key::Cases);
     let value = needed_member(alloc, place, whole, Key::Cases)?;
@@ -160,7 +155,7 @@ pub fn open_plans_in(alloc: Global, whole: &Value) -> Result<OpenCases, MemberFa
     ensures ok { IfOk result (λ cs. open_plans_in (view whole.now) ≡ Ok (map open_plan_of cs)) }
     ensures flows { IfOk result (λ cs. AreOpenFlowsFrom 0 cs) }
     ensures count { IfOk result (λ cs. length cs ≤ most_flows) }
-    ensures err { IfErr result (λ e. e ≢ fault.NoMemory → open_plans_in (view whole.now) ≡ Err e) }
+    ensures err { IfErr result (λ e. e ≢ fault.NoMemory no_memory → open_plans_in (view whole.now) ≡ Err e) }
 {
     opening(alloc, whole)?;
     let texts = texts_in(alloc, whole)?;

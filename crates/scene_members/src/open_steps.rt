@@ -1,10 +1,10 @@
 //! How the steps of a rollout's case are read.
-ghost use Rattle.std.specs.Prelude.{◌≡◌, ◌≢◌, ◌≤◌, IfOk, IfErr, OnOk, Ok, Err, [], length};
+ghost use Rattle.std.specs.Prelude.{◌≡◌, ◌≤◌, IfOk, OnOk, [], length};
 ghost use Rattle.serde_json.specs.View.{view, items_view};
 ghost use Rattle.ccp_base.specs.Limits.{most_steps};
 ghost use Rattle.scene_members.specs.Rollout.{steps_from, some_steps, case_steps};
 ghost use Rattle.scene_members.specs.OpenCases.{texts_of};
-ghost use Rattle.scene_members.specs.declared.fault.MemberFault.TheVariants as fault;
+ghost use Rattle.scene_members.specs.Readers.{Gives};
 
 use crate::fault::MemberFault;
 use crate::json_place::JsonPlace;
@@ -22,10 +22,8 @@ fn steps_from(
     i: usize,
     values: &[Value],
 ) -> Result<StepTexts, MemberFault>
-    ensures ok { IfOk result (λ steps. steps_from (texts_of texts.now) i [] (items_view values.now) ≡ Ok steps) }
+    ensures walk { Gives (λ steps. steps) result (steps_from (texts_of texts.now) i [] (items_view values.now)) }
     ensures count { IfOk result (λ steps. length steps ≡ length values.now) }
-    ensures err { IfErr result (λ e. e ≢ fault.NoMemory
-        → steps_from (texts_of texts.now) i [] (items_view values.now) ≡ Err e) }
 {
     let mut steps = Sequence::new(alloc);
     let mut rest = values;
@@ -39,10 +37,9 @@ fn steps_from(
 
 #[tactic(auto, using(crate::proofs::ListLemmas::items_count))]
 fn some_steps(alloc: Global, place: JsonPlace, items: &[Value]) -> Result<(), MemberFault>
-    ensures ok { OnOk result (some_steps place (items_view items.now) ≡ Ok (items_view items.now)) }
+    ensures walk { Gives (λ _. items_view items.now) result (some_steps place (items_view items.now)) }
     ensures some { OnOk result (1 ≤ length items.now) }
     ensures few { OnOk result (length items.now ≤ most_steps) }
-    ensures err { IfErr result (λ e. e ≢ fault.NoMemory → some_steps place (items_view items.now) ≡ Err e) }
 {
     if 1 <= items.len() && items.len() <= STEPS {
         Ok(())
@@ -58,10 +55,9 @@ pub(crate) fn case_steps(
     i: usize,
     whole: &Value,
 ) -> Result<StepTexts, MemberFault>
-    ensures ok { IfOk result (λ steps. case_steps (texts_of texts.now) i (view whole.now) ≡ Ok steps) }
+    ensures walk { Gives (λ steps. steps) result (case_steps (texts_of texts.now) i (view whole.now)) }
     ensures some { IfOk result (λ steps. 1 ≤ length steps) }
     ensures few { IfOk result (λ steps. length steps ≤ most_steps) }
-    ensures err { IfErr result (λ e. e ≢ fault.NoMemory → case_steps (texts_of texts.now) i (view whole.now) ≡ Err e) }
 {
     let place = JsonPlace::In(i, Key::Steps);
     let value = needed_member(alloc, place, whole, Key::Steps)?;

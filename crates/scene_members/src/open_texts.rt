@@ -1,9 +1,9 @@
 //! The texts of a rollout's programs by name, and the copy that a step takes.
-ghost use Rattle.std.specs.Prelude.{◌≡◌, ◌≢◌, IfOk, IfErr, Ok, Err, [], option_map, bytes_eq};
+ghost use Rattle.std.specs.Prelude.{◌≡◌, [], option_map, bytes_eq};
 ghost use Rattle.serde_json.specs.View.{view, members_view};
 ghost use Rattle.scene_members.specs.Rollout.{texts_from, texts_in, text_named, step_in};
 ghost use Rattle.scene_members.specs.OpenCases.{texts_of};
-ghost use Rattle.scene_members.specs.declared.fault.MemberFault.TheVariants as fault;
+ghost use Rattle.scene_members.specs.Readers.{Gives};
 
 use crate::fault::MemberFault;
 use crate::json_place::JsonPlace;
@@ -26,8 +26,7 @@ pub(crate) struct OpenText {
 pub(crate) type OpenTexts = Sequence<OpenText>;
 
 fn texts_from(alloc: Global, members: &Map<String, Value>) -> Result<OpenTexts, MemberFault>
-    ensures ok { IfOk result (λ texts. texts_from [] (members_view members.now.entries) ≡ Ok (texts_of texts)) }
-    ensures err { IfErr result (λ e. e ≢ fault.NoMemory → texts_from [] (members_view members.now.entries) ≡ Err e) }
+    ensures { Gives texts_of result (texts_from [] (members_view members.now.entries)) }
 {
     let mut texts = Sequence::new(alloc);
     for (name, value) in members.iter() {
@@ -43,8 +42,7 @@ fn texts_from(alloc: Global, members: &Map<String, Value>) -> Result<OpenTexts, 
 
 /// The texts of a scenario's programs.
 pub(crate) fn texts_in(alloc: Global, whole: &Value) -> Result<OpenTexts, MemberFault>
-    ensures ok { IfOk result (λ texts. texts_in (view whole.now) ≡ Ok (texts_of texts)) }
-    ensures err { IfErr result (λ e. e ≢ fault.NoMemory → texts_in (view whole.now) ≡ Err e) }
+    ensures { Gives texts_of result (texts_in (view whole.now)) }
 {
     let Some(value) = member(whole, Key::Programs) else {
         return Ok(Sequence::new(alloc));
@@ -80,8 +78,7 @@ pub(crate) fn step_in(
     texts: &[OpenText],
     value: &Value,
 ) -> Result<Bytes, MemberFault>
-    ensures ok { IfOk result (λ t. step_in place (texts_of texts.now) (view value.now) ≡ Ok t) }
-    ensures err { IfErr result (λ e. e ≢ fault.NoMemory → step_in place (texts_of texts.now) (view value.now) ≡ Err e) }
+    ensures { Gives (λ t. t) result (step_in place (texts_of texts.now) (view value.now)) }
 {
     let name = text(alloc, place, value)?;
     match text_named(texts, name.as_bytes()) {

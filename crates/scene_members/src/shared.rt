@@ -1,10 +1,12 @@
 //! The member `shared`: the link that flows share, and the most rounds.
 ghost use Rattle.std.specs.Prelude.{◌≡◌, ◌≢◌, ◌≤◌, IfOk, IfErr, Ok, Err};
+ghost use Rattle.ccp_base.specs.Outside.{no_memory};
 ghost use Rattle.serde_json.specs.View.{view};
 ghost use Rattle.ccp_base.specs.Limits.{most_queue, most_quantum_us, most_rounds};
 ghost use Rattle.scene_members.specs.Keys.{least_of, greatest_value};
 ghost use Rattle.scene_members.specs.Traces.{table_of};
 ghost use Rattle.scene_members.specs.SharedMembers.{shared_trace, shared_number, shared_members, shares_in};
+ghost use Rattle.scene_members.specs.Readers.{Gives};
 ghost use Rattle.scene_members.specs.declared.fault.MemberFault.TheVariants as fault;
 
 use crate::case::trace_in;
@@ -27,9 +29,7 @@ pub struct Shares {
 }
 
 fn shared_trace(alloc: Global, traces: &Traces, value: &Value) -> Result<Trace, MemberFault>
-    ensures ok { IfOk result (λ t. shared_trace (table_of traces.now.entries) (view value.now) ≡ Ok t) }
-    ensures err { IfErr result (λ e. e ≢ fault.NoMemory
-        → shared_trace (table_of traces.now.entries) (view value.now) ≡ Err e) }
+    ensures { Gives (λ t. t) result (shared_trace (table_of traces.now.entries) (view value.now)) }
 {
     let place = JsonPlace::Shared(Key::Trace);
     let name = needed_member(alloc, place, value, Key::Trace)?;
@@ -37,21 +37,18 @@ fn shared_trace(alloc: Global, traces: &Traces, value: &Value) -> Result<Trace, 
 }
 
 fn shared_number(alloc: Global, key: Key, value: &Value) -> Result<u64, MemberFault>
-    ensures ok { IfOk result (λ n. shared_number key (view value.now) ≡ Ok n) }
+    ensures walk { Gives (λ n. n) result (shared_number key (view value.now)) }
     ensures least { IfOk result (λ n. least_of key ≤ n) }
     ensures most { IfOk result (λ n. n ≤ greatest_value key) }
-    ensures err { IfErr result (λ e. e ≢ fault.NoMemory → shared_number key (view value.now) ≡ Err e) }
 {
     needed_number(alloc, JsonPlace::Shared(key), value, key)
 }
 
 fn shared_members(alloc: Global, traces: &Traces, value: &Value) -> Result<Shares, MemberFault>
-    ensures ok { IfOk result (λ s. shared_members (table_of traces.now.entries) (view value.now) ≡ Ok s) }
+    ensures walk { Gives (λ s. s) result (shared_members (table_of traces.now.entries) (view value.now)) }
     ensures queue { IfOk result (λ s. (1 ≤ s.queue) × (s.queue ≤ most_queue)) }
     ensures quantum_us { IfOk result (λ s. (1 ≤ s.quantum_us) × (s.quantum_us ≤ most_quantum_us)) }
     ensures rounds { IfOk result (λ s. (1 ≤ s.rounds) × (s.rounds ≤ most_rounds)) }
-    ensures err { IfErr result (λ e. e ≢ fault.NoMemory
-        → shared_members (table_of traces.now.entries) (view value.now) ≡ Err e) }
 {
     let trace = shared_trace(alloc, traces, value)?;
     let queue = shared_number(alloc, Key::Queue, value)?;
@@ -71,7 +68,7 @@ pub fn shares_in(alloc: Global, traces: &Traces, whole: &Value) -> Result<Shares
     ensures queue { IfOk result (λ s. (1 ≤ s.queue) × (s.queue ≤ most_queue)) }
     ensures quantum_us { IfOk result (λ s. (1 ≤ s.quantum_us) × (s.quantum_us ≤ most_quantum_us)) }
     ensures rounds { IfOk result (λ s. (1 ≤ s.rounds) × (s.rounds ≤ most_rounds)) }
-    ensures err { IfErr result (λ e. e ≢ fault.NoMemory
+    ensures err { IfErr result (λ e. e ≢ fault.NoMemory no_memory
         → shares_in (table_of traces.now.entries) (view whole.now) ≡ Err e) }
 {
     let place = JsonPlace::Top(Key::Shared);

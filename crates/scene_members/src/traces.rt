@@ -1,8 +1,10 @@
 //! The traces of a scenario by name.
 ghost use Rattle.std.specs.Prelude.{◌≡◌, ◌≢◌, IfOk, IfErr, Ok, Err, [], option_map};
+ghost use Rattle.ccp_base.specs.Outside.{no_memory};
 ghost use Rattle.serde_json.specs.View.{view, members_view};
 ghost use Rattle.scene_members.specs.CaseWalk.{trace_named};
 ghost use Rattle.scene_members.specs.Traces.{named_trace, traces_from, traces_in, table_of};
+ghost use Rattle.scene_members.specs.Readers.{Gives};
 ghost use Rattle.scene_members.specs.declared.fault.MemberFault.TheVariants as fault;
 
 use crate::fault::MemberFault;
@@ -19,20 +21,18 @@ use std::collections::BTreeMap;
 pub type Traces = BTreeMap<String, Trace>;
 
 fn named_trace(alloc: Global, name: &str, value: &Value) -> Result<Trace, MemberFault>
-    ensures ok { IfOk result (λ times. named_trace name.now (view value.now) ≡ Ok times) }
-    ensures err { IfErr result (λ e. e ≢ fault.NoMemory → named_trace name.now (view value.now) ≡ Err e) }
+    ensures { Gives (λ times. times) result (named_trace name.now (view value.now)) }
 {
     let named = named_text(alloc, Key::Traces, name, value)?;
     match Trace::read(alloc, named.text.as_bytes()) {
         Ok(trace) => Ok(trace),
-        Err(TraceFault::NoMemory) => Err(MemberFault::NoMemory),
+        Err(TraceFault::NoMemory(error)) => Err(MemberFault::NoMemory(error)),
         Err(fault) => Err(MemberFault::Trace(named.name, fault)),
     }
 }
 
 fn traces_from(alloc: Global, members: &Map<String, Value>) -> Result<Traces, MemberFault>
-    ensures ok { IfOk result (λ ts. traces_from [] (members_view members.now.entries) ≡ Ok (table_of ts.entries)) }
-    ensures err { IfErr result (λ e. e ≢ fault.NoMemory → traces_from [] (members_view members.now.entries) ≡ Err e) }
+    ensures { Gives (λ ts. table_of ts.entries) result (traces_from [] (members_view members.now.entries)) }
 {
     let mut traces = Traces::new(alloc);
     for (name, value) in members.iter() {
@@ -45,7 +45,7 @@ fn traces_from(alloc: Global, members: &Map<String, Value>) -> Result<Traces, Me
 /// The traces of a scenario.
 pub fn traces_in(alloc: Global, whole: &Value) -> Result<Traces, MemberFault>
     ensures ok { IfOk result (λ traces. traces_in (view whole.now) ≡ Ok (table_of traces.entries)) }
-    ensures err { IfErr result (λ e. e ≢ fault.NoMemory → traces_in (view whole.now) ≡ Err e) }
+    ensures err { IfErr result (λ e. e ≢ fault.NoMemory no_memory → traces_in (view whole.now) ≡ Err e) }
 {
     let place = JsonPlace::Top(Key::Traces);
     let value = needed_member(alloc, place, whole, Key::Traces)?;

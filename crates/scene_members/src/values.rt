@@ -1,10 +1,10 @@
 //! The readers of JSON members: numbers within a key's range, texts, lists and objects.
-ghost use Rattle.std.specs.Prelude.{◌≡◌, ◌≢◌, ◌≤◌, IfOk, IfErr, Ok, Err, option_map};
+ghost use Rattle.std.specs.Prelude.{◌≡◌, ◌≤◌, IfOk, option_map};
 ghost use Rattle.serde_json.specs.View.{view, items_view, members_view};
 ghost use Rattle.scene_members.specs.Keys.{least_of, greatest_value};
 ghost use Rattle.scene_members.specs.Values.{member_of, needed_member, in_range, number_in, text_in, list_in, object_in};
 ghost use Rattle.scene_members.specs.Values.{needed_number, number_or};
-ghost use Rattle.scene_members.specs.declared.fault.MemberFault.TheVariants as fault;
+ghost use Rattle.scene_members.specs.Readers.{Gives};
 
 use crate::fault::MemberFault;
 use crate::json_place::JsonPlace;
@@ -26,9 +26,7 @@ pub(crate) fn needed_member(
     whole: &Value,
     key: Key,
 ) -> Result<&Value, MemberFault>
-    ensures ok { IfOk result (λ v. needed_member place (member_of key (view whole.now)) ≡ Ok (view v.now)) }
-    ensures err { IfErr result (λ e. e ≢ fault.NoMemory
-        → needed_member place (member_of key (view whole.now)) ≡ Err e) }
+    ensures { Gives (λ v. view v.now) result (needed_member place (member_of key (view whole.now))) }
 {
     match member(whole, key) {
         Some(value) => Ok(value),
@@ -37,10 +35,9 @@ pub(crate) fn needed_member(
 }
 
 fn in_range(alloc: Global, place: JsonPlace, key: Key, number: u64) -> Result<u64, MemberFault>
-    ensures ok { IfOk result (λ n. in_range place key number ≡ Ok n) }
+    ensures walk { Gives (λ n. n) result (in_range place key number) }
     ensures least { IfOk result (λ n. least_of key ≤ n) }
     ensures most { IfOk result (λ n. n ≤ greatest_value key) }
-    ensures err { IfErr result (λ e. e ≢ fault.NoMemory → in_range place key number ≡ Err e) }
 {
     if key.least() <= number && number <= key.most() {
         Ok(number)
@@ -56,10 +53,9 @@ pub(crate) fn number(
     key: Key,
     value: &Value,
 ) -> Result<u64, MemberFault>
-    ensures ok { IfOk result (λ n. number_in place key (view value.now) ≡ Ok n) }
+    ensures walk { Gives (λ n. n) result (number_in place key (view value.now)) }
     ensures least { IfOk result (λ n. least_of key ≤ n) }
     ensures most { IfOk result (λ n. n ≤ greatest_value key) }
-    ensures err { IfErr result (λ e. e ≢ fault.NoMemory → number_in place key (view value.now) ≡ Err e) }
 {
     match (value.as_u64(), value.as_i64()) {
         (Some(number), _) => in_range(alloc, place, key, number),
@@ -69,8 +65,7 @@ pub(crate) fn number(
 }
 
 pub(crate) fn text(alloc: Global, place: JsonPlace, value: &Value) -> Result<&str, MemberFault>
-    ensures ok { IfOk result (λ text. text_in place (view value.now) ≡ Ok text.now) }
-    ensures err { IfErr result (λ e. e ≢ fault.NoMemory → text_in place (view value.now) ≡ Err e) }
+    ensures { Gives (λ text. text.now) result (text_in place (view value.now)) }
 {
     match value.as_str() {
         Some(text) => Ok(text),
@@ -83,8 +78,7 @@ pub(crate) fn list(
     place: JsonPlace,
     value: &Value,
 ) -> Result<&Vec<Value>, MemberFault>
-    ensures ok { IfOk result (λ list. list_in place (view value.now) ≡ Ok (items_view list.now.items)) }
-    ensures err { IfErr result (λ e. e ≢ fault.NoMemory → list_in place (view value.now) ≡ Err e) }
+    ensures { Gives (λ list. items_view list.now.items) result (list_in place (view value.now)) }
 {
     match value.as_array() {
         Some(list) => Ok(list),
@@ -97,8 +91,7 @@ pub(crate) fn object(
     place: JsonPlace,
     value: &Value,
 ) -> Result<&Map<String, Value>, MemberFault>
-    ensures ok { IfOk result (λ map. object_in place (view value.now) ≡ Ok (members_view map.now.entries)) }
-    ensures err { IfErr result (λ e. e ≢ fault.NoMemory → object_in place (view value.now) ≡ Err e) }
+    ensures { Gives (λ map. members_view map.now.entries) result (object_in place (view value.now)) }
 {
     match value.as_object() {
         Some(map) => Ok(map),
@@ -113,10 +106,9 @@ pub(crate) fn needed_number(
     whole: &Value,
     key: Key,
 ) -> Result<u64, MemberFault>
-    ensures ok { IfOk result (λ n. needed_number place key (view whole.now) ≡ Ok n) }
+    ensures walk { Gives (λ n. n) result (needed_number place key (view whole.now)) }
     ensures least { IfOk result (λ n. least_of key ≤ n) }
     ensures most { IfOk result (λ n. n ≤ greatest_value key) }
-    ensures err { IfErr result (λ e. e ≢ fault.NoMemory → needed_number place key (view whole.now) ≡ Err e) }
 {
     let value = needed_member(alloc, place, whole, key)?;
     number(alloc, place, key, value)
@@ -132,11 +124,9 @@ pub(crate) fn number_or(
 ) -> Result<u64, MemberFault>
     requires least { least_of key ≤ default }
     requires most { default ≤ greatest_value key }
-    ensures ok { IfOk result (λ n. number_or place key default (member_of key (view whole.now)) ≡ Ok n) }
+    ensures walk { Gives (λ n. n) result (number_or place key default (member_of key (view whole.now))) }
     ensures least { IfOk result (λ n. least_of key ≤ n) }
     ensures most { IfOk result (λ n. n ≤ greatest_value key) }
-    ensures err { IfErr result (λ e. e ≢ fault.NoMemory
-        → number_or place key default (member_of key (view whole.now)) ≡ Err e) }
 {
     match member(whole, key) {
         Some(value) => number(alloc, place, key, value),

@@ -1,12 +1,14 @@
 //! The members of the whole: its version, and its cases within their limits.
-ghost use Rattle.std.specs.Prelude.{◌≡◌, ◌≢◌, ◌≤◌, ◌+◌, ◌*◌, ◌^◌, IfOk, IfErr, OnOk, Ok, Err, length};
+ghost use Rattle.std.specs.Prelude.{◌≡◌, ◌≢◌, ◌≤◌, ◌+◌, IfOk, IfErr, OnOk, Ok, Err, length};
 ghost use Rattle.std.specs.List.{All};
+ghost use Rattle.ccp_base.specs.Outside.{no_memory};
 ghost use Rattle.serde_json.specs.View.{view, items_view};
 ghost use Rattle.ccp_base.specs.Limits.{most_cases, most_named_programs};
 ghost use Rattle.agent_core.specs.Kinds.{built_in_count};
 ghost use Rattle.scene_members.specs.Plans.{IsPlan, IsStart};
 ghost use Rattle.scene_members.specs.Traces.{table_of};
 ghost use Rattle.scene_members.specs.Whole.{most_cases_of, few_items, cases_in, total_acks, within_total, opening_in};
+ghost use Rattle.scene_members.specs.Readers.{Gives};
 ghost use Rattle.scene_members.specs.declared.fault.MemberFault.TheVariants as fault;
 
 use crate::case::cases_from;
@@ -27,7 +29,7 @@ pub(crate) const ACKS_IN_ALL: u64 = 262_144;
 /// What comes before the programs: that the whole is an object, and its version, which is 1.
 pub fn opening(alloc: Global, whole: &Value) -> Result<u64, MemberFault>
     ensures ok { IfOk result (λ version. opening_in (view whole.now) ≡ Ok version) }
-    ensures err { IfErr result (λ e. e ≢ fault.NoMemory → opening_in (view whole.now) ≡ Err e) }
+    ensures err { IfErr result (λ e. e ≢ fault.NoMemory no_memory → opening_in (view whole.now) ≡ Err e) }
 {
     object(alloc, JsonPlace::Whole, whole)?;
     needed_number(alloc, JsonPlace::Top(Key::Version), whole, Key::Version)
@@ -36,9 +38,8 @@ pub fn opening(alloc: Global, whole: &Value) -> Result<u64, MemberFault>
 /// A list that doesn't have more items than there may be cases.
 #[tactic(auto, using(crate::proofs::ListLemmas::items_count))]
 pub(crate) fn few_items(alloc: Global, mode: SceneMode, items: &[Value]) -> Result<(), MemberFault>
-    ensures ok { OnOk result (few_items mode (items_view items.now) ≡ Ok (items_view items.now)) }
+    ensures walk { Gives (λ _. items_view items.now) result (few_items mode (items_view items.now)) }
     ensures count { OnOk result (length items.now ≤ most_cases_of mode) }
-    ensures err { IfErr result (λ e. e ≢ fault.NoMemory → few_items mode (items_view items.now) ≡ Err e) }
 {
     if items.len() <= mode.most_cases() {
         Ok(())
@@ -87,7 +88,7 @@ pub fn cases_in(
     ensures within { IfOk result (λ ps. All (IsPlan (length names.now + built_in_count)) ps) }
     ensures starts { IfOk result (λ ps. All (λ p. IsStart mode p.start_us) ps) }
     ensures count { IfOk result (λ ps. length ps ≤ most_cases_of mode) }
-    ensures err { IfErr result (λ e. e ≢ fault.NoMemory
+    ensures err { IfErr result (λ e. e ≢ fault.NoMemory no_memory
         → cases_in mode names.now (table_of traces.now.entries) (view whole.now) ≡ Err e) }
 {
     let place = JsonPlace::Top(Key::Cases);

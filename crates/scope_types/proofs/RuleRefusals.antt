@@ -1,6 +1,7 @@
 -- No walk runs out of memory: each refusal is that of a rule.
 use Rattle.std.proofs.Common.{◌≡◌, ℕ, ◌==◌, Bool, true, false, not, ◌&&◌, ◌||◌, List, [], ◌∷◌, ◌++◌, length, Option, Some, None, is_some, Result, Ok, Err, IfErr, nat_lt, nat_le, bytes_eq, codes, subst, if◌then◌else◌}
 use Rattle.std.specs.Prelude.{◌^◌}
+use Rattle.ccp_base.specs.Outside.{no_memory}
 use Rattle.ccp_base.specs.declared.place.Place.{Place}
 use Rattle.ccp_base.specs.declared.operation.Op2.{Op2}
 use Rattle.portus_core.specs.declared.program.Var.{Var}
@@ -27,7 +28,7 @@ use Rattle.scope_types.specs.ProgramWalk as program
 
 -- a refusal by a rule of the language
 abbrev IsRule : ScopeFault → Type 0
-IsRule NoMemory = ⊥
+IsRule (NoMemory _) = ⊥
 IsRule _ = Unit {0}
 
 -- a walk is refused by rules alone
@@ -254,5 +255,5 @@ source_rule (more first rest) =
     then_rule (program.blocks_walk names [] rest) _ (blocks_rule names [] rest) (λ body. tt))
 
 -- the walk over forms doesn't run out of memory
-pub never_memory : (nodes : Nodes) → program.source_walk nodes ≡ Err NoMemory → ⊥
+pub never_memory : (nodes : Nodes) → program.source_walk nodes ≡ Err (NoMemory no_memory) → ⊥
 never_memory nodes e = subst (λ (r : Result Form ScopeFault). ByRule r) e (source_rule nodes)

@@ -1,5 +1,6 @@
 -- Walks one after the other, and their results as the data of the code's commands, blocks and refusals.
 use Rattle.std.specs.Prelude.{◌≡◌, ◌≢◌, map, List, Result, Ok, Err}
+use Rattle.ccp_base.specs.Outside.{no_memory}
 use Rattle.portus_core.specs.Programs.{Term, Action, action_of, set, Part, part_of}
 use Rattle.portus_core.specs.declared.program.Cmd.{Cmd}
 use Rattle.portus_core.specs.declared.program.Block.{Block}
@@ -16,7 +17,7 @@ and_then (Err e) walk = Err e
 
 -- a refusal in the code is that of the walk, or out of memory
 abbrev pub EndsWalk : {A : Type 0} → Result A ScopeFault → ScopeFault → Type 0
-EndsWalk outcome fault = fault ≢ NoMemory → outcome ≡ Err fault
+EndsWalk outcome fault = fault ≢ NoMemory no_memory → outcome ≡ Err fault
 
 -- the data of the commands of a body
 abbrev pub actions_of : List Cmd → List Action

@@ -123,7 +123,7 @@ impl Declarations {
     {
         match self.all.insert(Named { decl }) {
             Ok(_) => Ok(()),
-            Err(_) => Err(AllocError),
+            Err(refused) => Err(AllocError::from(refused)),
         }
     }
 

@@ -1,5 +1,6 @@
 //! How expressions and the words in them are scoped, the left part before the right one.
 ghost use Rattle.std.specs.Prelude.{◌≡◌, ◌≢◌, IfOk, IfErr, Ok, Err};
+ghost use Rattle.ccp_base.specs.Outside.{no_memory};
 ghost use Rattle.portus_core.specs.Trees.{node_of};
 ghost use Rattle.portus_core.specs.Programs.{term_of, pair};
 ghost use Rattle.scope_types.specs.ExpressionWalk.{expression_walk, variable_walk, word_walk};
@@ -48,7 +49,7 @@ fn word(names: &Names, at: Place, w: &[u8]) -> Result<Expr, ScopeFault>
 /// An operation on two values.
 fn pair(alloc: Global, op: Op2, head: Place, left: Expr, right: Expr) -> Result<Expr, ScopeFault>
     ensures ok { IfOk result (λ e. term_of e ≡ pair op head (term_of left) (term_of right)) }
-    ensures err { IfErr result (λ e. e ≡ ScopeFault.NoMemory) }
+    ensures err { IfErr result (λ e. e ≡ ScopeFault.NoMemory no_memory) }
 {
     let left = Box::new(alloc, left)?;
     let right = Box::new(alloc, right)?;

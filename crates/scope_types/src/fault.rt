@@ -1,5 +1,7 @@
 //! Why a text's forms are no program, with the place of the refused part.
-use ccp_base::Place;
+ghost use Rattle.ccp_base.specs.Outside.{no_memory};
+
+use ccp_base::{NoMemory, Place};
 use std::alloc::{AllocError, AllocFailed};
 
 /// What a program has too many of.
@@ -29,17 +31,17 @@ pub enum ScopeFault {
     /// A field, control variable, local or block is past the most that there may be.
     TooMany(Place, What),
     /// Out of memory.
-    NoMemory,
+    NoMemory(NoMemory),
 }
 
 impl From<AllocError> for ScopeFault {
     ghost use Rattle.std.specs.Prelude.{◌≡◌};
     ghost use Rattle.scope_types.specs.declared.fault.ScopeFault.TheVariants.{NoMemory};
 
-    ghost from_gives = { λ _ e. e ≡ NoMemory };
+    ghost from_gives = { λ _ e. e ≡ NoMemory no_memory };
 
-    fn from(_error: AllocError) -> ScopeFault {
-        ScopeFault::NoMemory
+    fn from(error: AllocError) -> ScopeFault {
+        ScopeFault::NoMemory(NoMemory::from(error))
     }
 }
 
@@ -47,9 +49,9 @@ impl<T: Drop> From<AllocFailed<T>> for ScopeFault {
     ghost use Rattle.std.specs.Prelude.{◌≡◌};
     ghost use Rattle.scope_types.specs.declared.fault.ScopeFault.TheVariants.{NoMemory};
 
-    ghost from_gives = { λ _ e. e ≡ NoMemory };
+    ghost from_gives = { λ _ e. e ≡ NoMemory no_memory };
 
-    fn from(_error: AllocFailed<T>) -> ScopeFault {
-        ScopeFault::NoMemory
+    fn from(error: AllocFailed<T>) -> ScopeFault {
+        ScopeFault::NoMemory(NoMemory::from(error))
     }
 }

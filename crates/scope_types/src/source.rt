@@ -1,5 +1,6 @@
 //! The call `scope`: the program that a text's forms stand for, or their first refusal.
 ghost use Rattle.std.specs.Prelude.{◌≡◌, ◌≢◌, IsTrue, OnOk, IfOk, IfErr, MatchResult, Ok, Err};
+ghost use Rattle.ccp_base.specs.Outside.{no_memory};
 ghost use Rattle.portus_core.specs.Trees.{node_of, nodes_of};
 ghost use Rattle.portus_core.specs.Programs.{Form, form_over};
 ghost use Rattle.portus_core.specs.ProgramForm.{form_of};
@@ -102,7 +103,7 @@ pub fn scope(alloc: Global, source: Source) -> Result<Program, ScopeFault>
 
     // The same as equations with the walk over the forms, which gives the order of the refusals.
     ensures gives { IfOk result (λ p. source_walk (nodes_of source.forms.items) ≡ Ok (form_of p)) }
-    ensures refused { IfErr result (λ e. e ≢ ScopeFault.NoMemory → IsRefused (nodes_of source.forms.items) e) }
+    ensures refused { IfErr result (λ e. e ≢ ScopeFault.NoMemory no_memory → IsRefused (nodes_of source.forms.items) e) }
 
     // Forms have one program or one first refusal, and not both.
     ensures settled { IsSettled (nodes_of source.forms.items) }

@@ -3,6 +3,7 @@ ghost use Rattle.std.specs.Prelude.{◌≡◌, ◌-◌, ◌≤◌};
 ghost use Rattle.ccp_base.specs.Limits.{most_segment_bytes, most_flight};
 ghost use Rattle.link_model.specs.Counts.{most_packets};
 ghost use Rattle.link_model.specs.Link.{no_past, arrival_ack_of, timeout_ack_of};
+ghost use Rattle.link_model.specs.Rated.{rated};
 ghost use Rattle.shared_link.specs.SharedRounds.{since_start};
 
 use crate::shared_case::FlowLink;
@@ -10,9 +11,9 @@ use ccp_base::{Ack, Sequence};
 use link_model::{Arrival, Past, arrival_ack, timeout_ack};
 use std::marker::Model;
 
-/// An acknowledgement in 40 bytes, by what the link knows of it. The whole acknowledgement, with its rates, is computed
-/// by the thread that gives it to its flow, and not by the one that runs the link for all flows. Contracts see the
-/// whole one.
+/// An acknowledgement in 40 bytes, by what the link knows of it. The whole acknowledgement, with its rates if they are
+/// asked for, is computed by the thread that gives it to its flow, and not by the one that runs the link for all flows.
+/// Contracts see the whole one.
 #[derive(Drop)]
 pub struct PackedAck {
     /// When it arrives, in microseconds.
@@ -120,15 +121,15 @@ impl PackedAck {
         ensures { result ≡ self.entry.now }
     {
         let mut ack = Ack::default();
-        self.unpack(&mut ack);
+        self.unpack(true, &mut ack);
         ack
     }
 
-    /// Writes the whole acknowledgement where it is read: the thread that gives a flow its acknowledgements has one
-    /// place for all of them.
+    /// Writes the acknowledgement where it is read: the thread that gives a flow its acknowledgements has one place for
+    /// all of them. Its two rates are computed only if `rates` is true, and are 0 otherwise.
     #[inline]
-    pub fn unpack(&self, ack: &mut Ack)
-        ensures { ack.new ≡ self.entry.now }
+    pub fn unpack(&self, rates: bool, ack: &mut Ack)
+        ensures { ack.new ≡ rated rates self.entry.now }
     {
         let acked = u64::from(self.acked);
         let sent = u64::from(self.sent);
@@ -136,7 +137,7 @@ impl PackedAck {
             let sample = self.rtt_sample_us;
             let lost = u64::from(self.lost);
             put_timeout(
-                ack, self.mss, self.now, self.since, sample, lost, acked, sent,
+                rates, ack, self.mss, self.now, self.since, sample, lost, acked, sent,
             );
             return;
         }
@@ -154,6 +155,7 @@ impl PackedAck {
             u64::from(self.stay),
             acked,
             sent,
+            rates,
         );
         *ack = Ack {
             now: self.now,
@@ -164,9 +166,11 @@ impl PackedAck {
 }
 
 /// Writes the acknowledgement of a flow's timeout at `now`, which is `since` microseconds after the flow's start and has
-/// this round-trip sample. A timeout is rare: it has no place in the function that unpacks each acknowledgement.
+/// this round-trip sample, with its rates only if `rates` is true. A timeout is rare: it has no place in the function
+/// that unpacks each acknowledgement.
 #[inline(never)]
 fn put_timeout(
+    rates: bool,
     ack: &mut Ack,
     mss: u16,
     now: u64,
@@ -179,14 +183,14 @@ fn put_timeout(
     requires since { since ≤ now }
     requires acked { acked ≤ most_packets }
     requires sent { sent ≤ most_packets }
-    ensures { ack.new ≡ since_start mss (now - since) acked sent
-        (timeout_ack_of mss now (record { rtt_sample_us = sample }) lost 0 acked sent) }
+    ensures { ack.new ≡ rated rates (since_start mss (now - since) acked sent
+        (timeout_ack_of mss now (record { rtt_sample_us = sample }) lost 0 acked sent)) }
 {
     let past = Past {
         rtt_sample_us: sample,
     };
     // its rates are those of a timeout at this time of a flow that starts at time 0
-    let over_flow_time = timeout_ack(u32::from(mss), since, past, lost, acked, sent);
+    let over_flow_time = timeout_ack(u32::from(mss), since, past, lost, acked, sent, rates);
     *ack = Ack {
         now,
         ..over_flow_time

@@ -13,3 +13,5 @@ pub mod CourseLemmas
 pub mod BookLemmas
 pub mod KeptLemmas
 pub mod RunLemmas
+pub mod ReportLemmas
+pub mod KnownLemmas

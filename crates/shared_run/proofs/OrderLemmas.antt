@@ -37,75 +37,82 @@ no-part workers worker part isnt = ap (λ (b : Bool). cond b (part ∷ []) []) i
 a-part : (workers worker : ℕ) (part : FlowPart) → is_done_by workers worker part ≡ true → filter (is_done_by workers worker) (part ∷ []) ≡ part ∷ []
 a-part workers worker part is = ap (λ (b : Bool). cond b (part ∷ []) []) is
 
-abbrev with-parts : ℕ → ℕ → List FlowPart → OrderState
-with-parts workers worker parts = record { worker = worker; workers = workers; parts = parts }
+abbrev with-parts : ℕ → ℕ → ℕ → List FlowPart → OrderState
+with-parts workers worker round parts = record { worker = worker; workers = workers; round = round; parts = parts }
 
 -- a flow that isn't the worker's, or that has no acknowledgement, leaves the worker's order
-order-same : (workers worker : ℕ) (lists : List (List Ack)) (acks : List Ack) → is_done_by workers worker (length lists, acks) ≡ false
-    → order_of workers worker lists ≡ order_of workers worker (lists ++ acks ∷ [])
-order-same workers worker lists acks isnt =
-    ap (with-parts workers worker)
+order-same : (workers worker round : ℕ) (lists : List (List Ack)) (acks : List Ack) → is_done_by workers worker (length lists, acks) ≡ false
+    → order_of workers worker round lists ≡ order_of workers worker round (lists ++ acks ∷ [])
+order-same workers worker round lists acks isnt =
+    ap (with-parts workers worker round)
     (sym (parts-last workers worker lists acks
     ∙ ap (λ (more : List FlowPart). parts_of_worker workers worker lists ++ more) (no-part workers worker (length lists, acks) isnt)
     ∙ append-nil (parts_of_worker workers worker lists)))
 
 -- and else is one more part
-order-longer : (workers worker : ℕ) (lists : List (List Ack)) (acks : List Ack) → is_done_by workers worker (length lists, acks) ≡ true
-    → with_flow_part (length lists, acks) (order_of workers worker lists) ≡ order_of workers worker (lists ++ acks ∷ [])
-order-longer workers worker lists acks is =
-    ap (with-parts workers worker)
+order-longer : (workers worker round : ℕ) (lists : List (List Ack)) (acks : List Ack) → is_done_by workers worker (length lists, acks) ≡ true
+    → with_flow_part (length lists, acks) (order_of workers worker round lists) ≡ order_of workers worker round (lists ++ acks ∷ [])
+order-longer workers worker round lists acks is =
+    ap (with-parts workers worker round)
     (sym (parts-last workers worker lists acks
     ∙ ap (λ (more : List FlowPart). parts_of_worker workers worker lists ++ more) (a-part workers worker (length lists, acks) is)))
 
-pub deals-none : (workers number : ℕ) (acks : List Ack) (orders : List OrderState) → length acks ≡ 0 → DealsOne workers (number, acks) orders orders
-deals-none workers number [] orders none lists is dealt worker less =
-    dealt worker less ∙ ap (λ (order : OrderState). Some order) (order-same workers worker lists [] refl)
-deals-none workers number (ack ∷ rest) orders none lists is dealt worker less = absurd (omega (arith, none))
+pub deals-none : (workers round number : ℕ) (acks : List Ack) (orders : List OrderState) → length acks ≡ 0 → DealsOne workers round (number, acks) orders orders
+deals-none workers round number [] orders none lists is dealt worker less =
+    dealt worker less ∙ ap (λ (order : OrderState). Some order) (order-same workers worker round lists [] refl)
+deals-none workers round number (ack ∷ rest) orders none lists is dealt worker less = absurd (omega (arith, none))
 
 -- its worker's order is there, and it is that worker's
-pub worker-there : (workers number : ℕ) (orders : List OrderState) → 0 < workers → IsDealtBefore workers number orders
+pub worker-there : (workers round number : ℕ) (orders : List OrderState) → 0 < workers → IsDealtBefore workers round number orders
     → (worker : ℕ) → worker ≡ number % workers → worker < length orders
-worker-there workers number orders some before worker is =
+worker-there workers round number orders some before worker is =
     let less : number % workers < workers = mod-lt number some in
     let within : worker < workers = omega (arith, is, less) in
-    slice_get_within orders worker (order_of workers worker before.0) (before.2 worker within)
+    slice_get_within orders worker (order_of workers worker round before.0) (before.2 worker within)
 
-pub worker-own : (workers number : ℕ) (orders : List OrderState) → 0 < workers → IsDealtBefore workers number orders
+pub worker-own : (workers round number : ℕ) (orders : List OrderState) → 0 < workers → IsDealtBefore workers round number orders
     → (worker : ℕ) (order : OrderState) → worker ≡ number % workers → slice_get orders worker ≡ Some order → number % order.workers ≡ order.worker
-worker-own workers number orders some before worker order is at =
+worker-own workers round number orders some before worker order is at =
     let less : number % workers < workers = mod-lt number some in
     let within : worker < workers = omega (arith, is, less) in
-    let same : order_of workers worker before.0 ≡ order = same-some (order_of workers worker before.0) order (sym (before.2 worker within) ∙ at) in
+    let same : order_of workers worker round before.0 ≡ order = same-some (order_of workers worker round before.0) order (sym (before.2 worker within) ∙ at) in
     ap (λ (o : OrderState). number % o.workers) (sym same) ∙ sym is ∙ ap (λ (o : OrderState). o.worker) same
 
-pub deals-part : (workers number : ℕ) (acks : List Ack) (orders : List OrderState) (order new : OrderState) (at : ℕ)
+pub worker-round : (workers round number : ℕ) (orders : List OrderState) → 0 < workers → IsDealtBefore workers round number orders
+    → (worker : ℕ) (order : OrderState) → worker ≡ number % workers → slice_get orders worker ≡ Some order → round ≡ order.round
+worker-round workers round number orders some before worker order is at =
+    let less : number % workers < workers = mod-lt number some in
+    let within : worker < workers = omega (arith, is, less) in
+    ap (λ (o : OrderState). o.round) (same-some (order_of workers worker round before.0) order (sym (before.2 worker within) ∙ at))
+
+pub deals-part : (workers round number : ℕ) (acks : List Ack) (orders : List OrderState) (order new : OrderState) (at : ℕ)
     → 0 < length acks → at ≡ number % workers → slice_get orders at ≡ Some order → new ≡ with_flow_part (number, acks) order
-    → DealsOne workers (number, acks) orders (set orders at new)
-deals-part workers number [] orders order new at some is there made lists same dealt worker less = absurd (omega (arith, some))
-deals-part workers number (ack ∷ rest) orders order new at some is there made lists same dealt worker less =
-    elim (eqb_tells (number % workers) worker) as (λ _. slice_get (set orders at new) worker ≡ Some (order_of workers worker (lists ++ (ack ∷ rest) ∷ []))) [
+    → DealsOne workers round (number, acks) orders (set orders at new)
+deals-part workers round number [] orders order new at some is there made lists same dealt worker less = absurd (omega (arith, some))
+deals-part workers round number (ack ∷ rest) orders order new at some is there made lists same dealt worker less =
+    elim (eqb_tells (number % workers) worker) as (λ _. slice_get (set orders at new) worker ≡ Some (order_of workers worker round (lists ++ (ack ∷ rest) ∷ []))) [
       | inl own ↦
           (let here : at ≡ worker = is ∙ own.1 in
-          let was : order_of workers worker lists ≡ order =
-          same-some (order_of workers worker lists) order (sym (dealt worker less) ∙ ap (slice_get orders) (sym here) ∙ there) in
+          let was : order_of workers worker round lists ≡ order =
+          same-some (order_of workers worker round lists) order (sym (dealt worker less) ∙ ap (slice_get orders) (sym here) ∙ there) in
           let mine : is_done_by workers worker (length lists, ack ∷ rest) ≡ true = ap (λ (n : ℕ). n % workers == worker) same ∙ own.0 in
           ap (slice_get (set orders at new)) (sym here)
           ∙ slice_get-set_same orders at new (slice_get_within orders at order there)
           ∙ ap (λ (o : OrderState). Some o)
           (made ∙ ap (λ (o : OrderState). with_flow_part (number, ack ∷ rest) o) (sym was)
-          ∙ ap (λ (n : ℕ). with_flow_part (n, ack ∷ rest) (order_of workers worker lists)) (sym same)
-          ∙ order-longer workers worker lists (ack ∷ rest) mine))
+          ∙ ap (λ (n : ℕ). with_flow_part (n, ack ∷ rest) (order_of workers worker round lists)) (sym same)
+          ∙ order-longer workers worker round lists (ack ∷ rest) mine))
       | inr others ↦
           (let apart : worker ≢ at = λ e. others.1 (sym is ∙ sym e) in
           let other : is_done_by workers worker (length lists, ack ∷ rest) ≡ false = ap (λ (n : ℕ). n % workers == worker) same ∙ others.0 in
           slice_get-set_other orders at worker new apart
           ∙ dealt worker less
-          ∙ ap (λ (o : OrderState). Some o) (order-same workers worker lists (ack ∷ rest) other))
+          ∙ ap (λ (o : OrderState). Some o) (order-same workers worker round lists (ack ∷ rest) other))
     ]
 
 -- the first of the orders have no part yet
-abbrev pub AreOpen : ℕ → ℕ → List OrderState → Type 0
-AreOpen workers count orders = (worker : ℕ) → worker < count → slice_get orders worker ≡ Some (order_of workers worker [])
+abbrev pub AreOpen : ℕ → ℕ → ℕ → List OrderState → Type 0
+AreOpen workers round count orders = (worker : ℕ) → worker < count → slice_get orders worker ≡ Some (order_of workers worker round [])
 
 pub on_ok : {A E P Q : Type 0} (result : Result A E) → (P → Q) → OnOk result P → OnOk result Q
 on_ok (Ok value) follows holds = follows holds
@@ -114,7 +121,7 @@ on_ok (Err fault) follows holds = tt
 -- ---- parts that are done
 
 -- what a list is mapped to stays, if a slice of all of it is mapped to the same
-pub maps-as-before : {X : Type 0} (n : ℕ) (items new : List X) (f : X → FlowPart) → n ≡ length items → map f new ≡ map f items
+pub maps-as-before : {X Y : Type 0} (n : ℕ) (items new : List X) (f : X → Y) → n ≡ length items → map f new ≡ map f items
     → map f (take n (new ++ drop (length new) items)) ≡ map f items
 maps-as-before n items new f is same =
     let long : length new ≡ length items = sym (length-map new f) ∙ ap length same ∙ length-map items f in
@@ -127,12 +134,12 @@ maps-as-before n items new f is same =
 -- ---- parts that are a worker's own
 
 -- one part more
-own-more : {X : Type 0} (P : FlowPart → Type 0) (f : X → FlowPart) (b : Bool) (old : List X) (part : X) → All P (map f old) → All P (map f (part ∷ []))
+own-more : {X Y : Type 0} (P : Y → Type 0) (f : X → Y) (b : Bool) (old : List X) (part : X) → All P (map f old) → All P (map f (part ∷ []))
     → All P (map f (cond b (old ++ part ∷ []) old))
 own-more P f true old part own one = subst (All P) (sym (map-append f old (part ∷ []))) (All-append P (map f old) (map f (part ∷ [])) own one)
 own-more P f false old part own one = own
 
 -- a part was put at the end of a list, or nothing was changed
-pub own-pushed : {X : Type 0} (P : FlowPart → Type 0) (f : X → FlowPart) (b : Bool) (old new : List X) (part : X) → new ≡ cond b (old ++ part ∷ []) old
+pub own-pushed : {X Y : Type 0} (P : Y → Type 0) (f : X → Y) (b : Bool) (old new : List X) (part : X) → new ≡ cond b (old ++ part ∷ []) old
     → All P (map f old) → All P (map f (part ∷ [])) → All P (map f new)
 own-pushed P f b old new part is own one = subst (λ (parts : List _). All P (map f parts)) (sym is) (own-more P f b old part own one)

@@ -1,5 +1,5 @@
 -- A flow of a run after one more letter, whatever it keeps of its history.
-use Rattle.std.specs.Prelude.{◌≡◌, ◌<◌, ◌≤◌, ℕ, ◌+◌, ◌-◌, ◌*◌, max, Bool, true, false, Result, Ok, Err, IfOk, List, [], ◌∷◌, ◌++◌, length}
+use Rattle.std.specs.Prelude.{◌≡◌, ◌<◌, ◌≤◌, ℕ, ◌+◌, ◌-◌, ◌*◌, max, Bool, true, false, Result, Ok, Err, IfOk, List, [], ◌∷◌, ◌++◌, length, refl}
 use Rattle.std.proofs.Common.{arith, ap, sym, ◌∙◌, subst, length-append, append_assoc}
 use Rattle.std.proofs.lemmas.Bool.{lt-ltb, ltb-true}
 use Rattle.ccp_base.specs.declared.ack.Ack.{Ack}
@@ -15,6 +15,9 @@ use Rattle.flow_core.specs.States.{issued_as}
 use Rattle.flow_core.specs.Cores.{CoreState, with_ack}
 use Rattle.flow_core.specs.Summaries.{summary, step_ack, step_take, step_answer, may_make}
 use Rattle.flow_core.specs.Bares.{BareState}
+use Rattle.flow_core.specs.ReadsRates.{case_reads_rates}
+use Rattle.link_model.specs.Rated.{rated}
+use Rattle.shared_run.specs.declared.round_flow.BareFlow.{BareFlow}
 use Rattle.flow_core.proofs.MappedLemmas.{count-mapped}
 use Rattle.flow_core.proofs.SummaryLemmas.{summary-ack, summary-take, summary-answer, summary-legal}
 use Rattle.flow_core.proofs.WordLemmas.{acks-of-world_over, world_over-A}
@@ -30,7 +33,7 @@ use Rattle.shared_link.specs.declared.round.Ask.{Ask}
 use Rattle.shared_run.specs.RoundLetters.{world_of_core, with_letter, answers_next, after_settling, with_settled_ack, round_part}
 use Rattle.shared_run.specs.SharedHistory.{ask_of}
 use Rattle.shared_run.specs.FlowRow.{peak_of, flow_row, AreRoomy}
-use Rattle.shared_run.specs.RoundFlows.{HasAllAcks, bare_after, MayMake, Makes, tally_of, IsAfterHistory, HasHistory, MayHear, Goes, Took, MakesNext}
+use Rattle.shared_run.specs.RoundFlows.{HasAllAcks, bare_after, bare_flow_at, MayMake, Makes, tally_of, IsAfterHistory, HasHistory, MayHear, Goes, Took, MakesNext}
 use Rattle.shared_run.proofs.PeakLemmas.{peak-more}
 use Rattle.shared_run.proofs.TurnLemmas.{next-C, next-T, next-none, answer-legal, fewer, settled-turn, settled-none, settled-acks, settled-case}
 
@@ -112,6 +115,11 @@ module _ (core : CoreState) where
         λ i. record { sums = sums i; peak = peak i }
 
 -- ---- sums
+
+-- they add up no rate
+pub sums-rated : (rates : Bool) (ack : Ack) (sums : Sums) → sums_with (rated rates ack) sums ≡ sums_with ack sums
+sums-rated true ack sums = refl
+sums-rated false ack sums = refl
 
 timeouts-most : (acks : List Ack) → timeouts_in acks ≤ length acks
 timeouts-most [] = omega arith
@@ -363,24 +371,43 @@ module _ {F : Type 0} (at : CoreState → F) where
 
 -- ---- a flow without its history
 
-pub bare-may : (letter : Letter) (bare : BareState) → MayMake bare_after letter bare → may_make (over_codes bare.case) bare.summary letter ≡ true
-bare-may letter bare may =
-    ap (λ (b : BareState). may_make (over_codes b.case) b.summary letter) may.after
+pub bare-may : (letter : Letter) (flow : BareFlow) → MayMake bare_flow_at letter flow → may_make (over_codes flow.bare.case) flow.bare.summary letter ≡ true
+bare-may letter flow may =
+    ap (λ (f : BareFlow). may_make (over_codes f.bare.case) f.bare.summary letter) may.after
     ∙ sym (summary-legal (over_codes may.core.case) letter (world_of_core over_codes may.core)) ∙ may.legal
 
-pub bare-makes-A : (old new : BareState) (ack : Ack) → new ≡ record old { summary = step_ack (over_codes old.case) ack old.summary }
-    → Makes bare_after (λ (core : CoreState). with_ack core ack) old new
-bare-makes-A old new ack stepped core whole is =
-    stepped ∙ ap (λ (b : BareState). record b { summary = step_ack (over_codes b.case) ack b.summary }) is ∙ sym (bare-A core whole ack)
+module _ (old : BareFlow) (new : BareState) where
+  abbrev pub with_bare : BareFlow
+  with_bare = record old { bare = new }
 
-pub bare-makes-T : (old new : BareState) → new ≡ record old { summary = step_take old.summary } → Makes bare_after (with_letter T) old new
-bare-makes-T old new stepped core whole is =
-    stepped ∙ ap (λ (b : BareState). record b { summary = step_take b.summary }) is ∙ sym (bare-T core)
+  pub bare-makes-A : (ack : Ack) → new ≡ record old.bare { summary = step_ack (over_codes old.bare.case) ack old.bare.summary }
+      → Makes bare_flow_at (λ (core : CoreState). with_ack core ack) old with_bare
+  bare-makes-A ack stepped core whole is =
+      (λ i. record old { bare = stepped i })
+      ∙ ap (λ (f : BareFlow). record f { bare = record f.bare { summary = step_ack (over_codes f.bare.case) ack f.bare.summary } }) is
+      ∙ (λ i. record { bare = sym (bare-A core whole ack) i; reads_rates = case_reads_rates core.case })
 
-pub bare-makes-C : (old new : BareState) → new ≡ record old { summary = step_answer (over_codes old.case) old.summary }
-    → Makes bare_after (with_letter C) old new
-bare-makes-C old new stepped core whole is =
-    stepped ∙ ap (λ (b : BareState). record b { summary = step_answer (over_codes b.case) b.summary }) is ∙ sym (bare-C core)
+  -- the same with an acknowledgement whose rates weren't computed, since no program reads one
+  pub bare-makes-unread : (ack other : Ack)
+      → ((one : Ack) → ack ≡ rated (case_reads_rates old.bare.case) one → new ≡ record old.bare { summary = step_ack (over_codes old.bare.case) one old.bare.summary })
+      → ack ≡ rated old.reads_rates other → Makes bare_flow_at (λ (core : CoreState). with_ack core other) old with_bare
+  bare-makes-unread ack other unread got core whole is =
+      let reads : old.reads_rates ≡ case_reads_rates old.bare.case =
+      ap (λ (f : BareFlow). f.reads_rates) is ∙ sym (ap (λ (f : BareFlow). case_reads_rates f.bare.case) is) in
+      bare-makes-A other (unread other (got ∙ ap (λ (rates : Bool). rated rates other) reads)) core whole is
+
+  pub bare-makes-T : new ≡ record old.bare { summary = step_take old.bare.summary } → Makes bare_flow_at (with_letter T) old with_bare
+  bare-makes-T stepped core whole is =
+      (λ i. record old { bare = stepped i })
+      ∙ ap (λ (f : BareFlow). record f { bare = record f.bare { summary = step_take f.bare.summary } }) is
+      ∙ (λ i. record { bare = sym (bare-T core) i; reads_rates = case_reads_rates core.case })
+
+  pub bare-makes-C : new ≡ record old.bare { summary = step_answer (over_codes old.bare.case) old.bare.summary }
+      → Makes bare_flow_at (with_letter C) old with_bare
+  bare-makes-C stepped core whole is =
+      (λ i. record old { bare = stepped i })
+      ∙ ap (λ (f : BareFlow). record f { bare = record f.bare { summary = step_answer (over_codes f.bare.case) f.bare.summary } }) is
+      ∙ (λ i. record { bare = sym (bare-C core) i; reads_rates = case_reads_rates core.case })
 
 -- ---- a flow with its history
 

@@ -17,7 +17,7 @@ use Rattle.shared_run.specs.RoundLetters.{CaseReading, world_of_core, with_lette
 -- ---- which letter is next
 
 -- none of these letters is an acknowledgement
-no-ack : false ≡ true → ⊥
+pub no-ack : false ≡ true → ⊥
 no-ack is = cc
 
 -- the word has all acknowledgements
@@ -28,14 +28,14 @@ module _ {X : Type 0} (read : CaseReading X) where
   abbrev left_of : CoreState → ℕ
   left_of core = letters_left (read core.case) (world_of_core read core)
 
-  answered-out : (at_end : Bool) (core : CoreState) → answers_next at_end read core ≡ true → is_some (world_of_core read core).out ≡ true
+  pub answered-out : (at_end : Bool) (core : CoreState) → answers_next at_end read core ≡ true → is_some (world_of_core read core).out ≡ true
   answered-out false core due =
       let w = world_of_core read core in
       due-out core.case.lag (length w.acks) (is_legal (read core.case) w A) w.out due
   answered-out true core due = due
 
   module _ (at_end : Bool) where
-    next-made : (core : CoreState) (next : Option Letter) → settling_letter at_end read core ≡ next
+    pub next-made : (core : CoreState) (next : Option Letter) → settling_letter at_end read core ≡ next
         → IsMade (answers_next at_end read core) (is_legal (read core.case) (world_of_core read core) T) false next
     next-made core next is =
         subst (λ (n : Option Letter). IsMade (answers_next at_end read core) (is_legal (read core.case) (world_of_core read core) T) false n) is
@@ -74,7 +74,7 @@ module _ {X : Type 0} (read : CaseReading X) where
 
     -- ---- the word has all acknowledgements
 
-    all-by : (core : CoreState) (letter : Letter) → MadeBy (answers_next at_end read core) (is_legal (read core.case) (world_of_core read core) T) false letter
+    pub all-by : (core : CoreState) (letter : Letter) → MadeBy (answers_next at_end read core) (is_legal (read core.case) (world_of_core read core) T) false letter
         → acks_in core.word ≡ length core.acks → acks_in (core.word ++ letter ∷ []) ≡ length core.acks
     all-by core A is all = absurd (no-ack is.2)
     all-by core T is all = acks_in-T core.word ∙ all

@@ -8,7 +8,9 @@ pub mod Courses
 pub mod SharedBooks
 pub mod WholeRun
 pub mod LiftedRun
+pub mod SharedReports
 -- those that only private contracts, invariants and proofs cite
 pub mod RoundFlows
 pub mod LiftedFlow
 pub mod Orders
+pub mod KnownFlows

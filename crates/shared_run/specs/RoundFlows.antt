@@ -11,9 +11,11 @@ use Rattle.flow_core.specs.WordLaws.{acks_in}
 use Rattle.flow_core.specs.Cores.{CoreState}
 use Rattle.flow_core.specs.Summaries.{summary}
 use Rattle.flow_core.specs.Bares.{BareState}
+use Rattle.flow_core.specs.ReadsRates.{case_reads_rates}
 use Rattle.campaign_core.specs.declared.tally.Tally.{Tally}
 use Rattle.campaign_core.specs.CampaignRow.{sums_of}
 use Rattle.shared_link.specs.declared.shared_case.SharedCase.{SharedCase}
+use Rattle.shared_run.specs.declared.round_flow.BareFlow.{BareFlow}
 use Rattle.shared_run.specs.RoundLetters.{world_of_core, with_letter, settling_letter}
 use Rattle.shared_run.specs.FlowRow.{peak_of, AreRoomy}
 use Rattle.shared_run.specs.Courses.{flows_after}
@@ -30,6 +32,10 @@ HaveAllAcks (core ∷ rest) = HasAllAcks core × HaveAllAcks rest
 -- what later letters depend on
 abbrev pub bare_after : CoreState → BareState
 bare_after core = record { case = core.case; summary = summary (over_codes core.case) (world_of_core over_codes core) }
+
+-- and whether a program of its case reads a rate
+abbrev pub bare_flow_at : CoreState → BareFlow
+bare_flow_at core = record { bare = bare_after core; reads_rates = case_reads_rates core.case }
 
 -- ---- a flow without its tally; `at` gives the flow after a history
 

@@ -57,11 +57,10 @@ impl<F: RoundFlow> SharedFlow<F> {
         ensures nothing { length acks.now ≡ 0 → IsOk result }
     {
         // one place for all of them: none is copied
-        let mut whole = Ack::default();
+        let mut place = Ack::default();
         let mut left = acks;
         while let Some((ack, rest)) = left.split_first() {
-            ack.unpack(&mut whole);
-            self.hear(&whole);
+            self.hear(ack, &mut place);
             self.settle_all(alloc, false)?;
             left = rest;
         }
@@ -109,12 +108,13 @@ impl<F: RoundFlow> SharedFlow<F> {
         if at_end { bare.has_out() } else { is_due(bare) }
     }
 
-    /// Takes an acknowledgement.
-    fn hear(&mut self, ack: &Ack)
-        requires { MayHear F.at (ack.now ∷ []) self.old.flow self.old.tally }
-        ensures { Goes F.at (λ core. with_ack core ack.entry.now)
+    /// Takes an acknowledgement, which is unpacked to `ack`. Its rates are computed only if the flow gets them.
+    fn hear(&mut self, packed: &PackedAck, ack: &mut Ack)
+        requires { MayHear F.at (packed.now ∷ []) self.old.flow self.old.tally }
+        ensures { Goes F.at (λ core. with_ack core packed.entry.now)
             self.old.flow self.old.tally self.new.flow self.new.tally }
     {
+        packed.unpack(self.flow.gets_rates(), ack);
         // before the flow hears it: its numbers are still at hand
         self.tally.sums = self.tally.sums.with(ack);
         self.flow.hear(ack);

@@ -3,6 +3,7 @@
 
 mod books;
 mod course;
+mod dealt;
 mod desk;
 mod flow;
 mod flows;
@@ -10,6 +11,7 @@ mod known_flow;
 mod laws;
 mod line;
 mod order;
+mod part_desk;
 mod round_acks;
 mod round_flow;
 mod rounds;
@@ -19,5 +21,5 @@ mod worker;
 mod worker_handle;
 
 pub use books::{Givens, SharedRows, SharedRun};
-pub use laws::settling_law;
+pub use laws::{reports_law, settling_law};
 pub use run::{shared, shared_rows};

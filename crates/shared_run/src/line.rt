@@ -1,4 +1,7 @@
 //! A line from one thread to another: a ring of messages, and a bell that wakes the thread that takes them.
+ghost use Rattle.std.specs.Prelude.{◌≡◌, ◌++◌, ◌∷◌, [], None, IfSome};
+ghost use Rattle.rtrb.specs.Ring.{sent};
+
 use ccp_base::NoMemory;
 use crossbeam_utils::CachePadded;
 use rtrb::{Consumer, Producer, PushError, RingBuffer};
@@ -51,7 +54,10 @@ pub(crate) fn line<'e, T: Drop>(
 
 impl<'e, T: Drop> Sender<'e, T> {
     /// Sends a message, or hands it back if the line is full.
-    pub(crate) fn send(&mut self, message: T) -> Option<T> {
+    pub(crate) fn send(&mut self, message: T) -> Option<T>
+        ensures sent { result ≡ None → sent self.new.ring ≡ sent self.old.ring ++ message ∷ [] }
+        ensures unsent { IfSome result (λ unsent. unsent ≡ message) }
+    {
         match self.ring.push(message) {
             Ok(()) => {
                 self.bell.unpark();

@@ -38,6 +38,7 @@ impl<C: Course> RoundAcks<C> {
             → AreRoomy core.acks }
         ensures acks { result.acks ≡ acks }
         ensures number { result.number ≡ number }
+        ensures round { result.round ≡ round }
     {
         RoundAcks {
             acks,
@@ -48,15 +49,16 @@ impl<C: Course> RoundAcks<C> {
         }
     }
 
-    /// Says which rounds the flow has rested through, as the caller knows. If it isn't known before this round, nothing
-    /// changes.
+    /// Says through which rounds the flow has rested, as is known of it.
     pub(crate) fn rest_since(&mut self, known: &KnownFlow<C>)
+        requires number { known.now.number ≡ self.old.number }
+        requires round { known.now.round ≡ self.old.round }
         ensures acks { self.new.acks ≡ self.old.acks }
         ensures number { self.new.number ≡ self.old.number }
+        ensures round { self.new.round ≡ self.old.round }
+        ensures since { self.new.since ≡ known.now.since }
     {
-        if known.is_at(self.number, self.round) {
-            self.since = known.since;
-        }
+        self.since = known.since;
     }
 
     /// The list of the acknowledgements.

@@ -1,9 +1,10 @@
 //! Flows that are given their acknowledgements, with their history or without.
-ghost use Rattle.std.specs.Prelude.{◌≡◌, refl, IfOk, OnOk};
+ghost use Rattle.std.specs.Prelude.{◌≡◌, Bool, true, refl, IfOk, OnOk};
+ghost use Rattle.link_model.specs.Rated.{rated};
 ghost use Rattle.flow_core.specs.Cores.{CoreState, with_ack};
 ghost use Rattle.flow_core.specs.Bares.{BareState};
 ghost use Rattle.shared_run.specs.RoundLetters.{opened, with_letter};
-ghost use Rattle.shared_run.specs.RoundFlows.{bare_after, MayMake, Makes};
+ghost use Rattle.shared_run.specs.RoundFlows.{bare_after, bare_flow_at, MayMake, Makes};
 
 use agent_core::calls::answer;
 use ccp_base::{Ack, NoMemory};
@@ -19,6 +20,9 @@ pub(crate) trait RoundFlow: Drop {
     /// What later letters depend on.
     ghost bare_of: { Self → BareState };
 
+    /// Whether the flow gets the two rates of its acknowledgements.
+    ghost gets: { Self → Bool };
+
     /// A flow without a letter.
     fn open(alloc: Global, case: Case) -> Result<Self, NoMemory>
         ensures { IfOk result (λ flow. flow ≡ at (opened case)) };
@@ -27,10 +31,16 @@ pub(crate) trait RoundFlow: Drop {
     fn bare(&self) -> &Bare
         ensures { result.now ≡ bare_of self.now };
 
-    /// Takes an acknowledgement.
+    /// Whether the flow gets the two rates of its acknowledgements.
+    fn gets_rates(&self) -> bool
+        ensures { result ≡ gets self.now };
+
+    /// Takes an acknowledgement. If the flow doesn't get the rates, it does the same with them.
     fn hear(&mut self, ack: &Ack)
         requires { MayMake at Letter.A self.old }
-        ensures { Makes at (λ core. with_ack core ack.entry.now) self.old self.new };
+        ensures made { Makes at (λ core. with_ack core ack.entry.now) self.old self.new }
+        ensures unread { (whole : Ack) → ack.entry.now ≡ rated (gets self.old) whole
+            → Makes at (λ core. with_ack core whole) self.old self.new };
 
     /// Takes a ticket.
     fn take(&mut self, alloc: Global) -> Result<(), NoMemory>
@@ -51,6 +61,8 @@ impl RoundFlow for Core {
 
     ghost bare_of = { bare_after };
 
+    ghost gets = { λ core. true };
+
     ghost bare_law = { λ core. refl };
 
     fn open(alloc: Global, case: Case) -> Result<Core, NoMemory> {
@@ -59,6 +71,11 @@ impl RoundFlow for Core {
 
     fn bare(&self) -> &Bare {
         Core::bare(self)
+    }
+
+    /// Its book has the whole acknowledgements.
+    fn gets_rates(&self) -> bool {
+        true
     }
 
     fn hear(&mut self, ack: &Ack) {
@@ -70,7 +87,7 @@ impl RoundFlow for Core {
     fn take(&mut self, alloc: Global) -> Result<(), NoMemory> {
         match Core::take(self, alloc) {
             Ok(_) => Ok(()),
-            Err(TakeFault::NoMemory) => Err(NoMemory),
+            Err(TakeFault::NoMemory(error)) => Err(error),
             // A ticket is legal here: none is out, and something is left to take.
             Err(TakeFault::NotYet) => unreachable!(),
             Err(TakeFault::Out(_)) => unreachable!(),
@@ -87,32 +104,48 @@ impl RoundFlow for Core {
     }
 }
 
-/// A flow without its history: it takes no memory after its opening.
-impl RoundFlow for Bare {
-    ghost at = { bare_after };
+/// A flow without its history.
+#[derive(Drop)]
+pub(crate) struct BareFlow {
+    bare: Bare,
+    /// Whether a program of its case reads a rate.
+    reads_rates: bool,
+}
 
-    ghost bare_of = { λ bare. bare };
+/// It takes no memory after its opening.
+impl RoundFlow for BareFlow {
+    ghost at = { bare_flow_at };
+
+    ghost bare_of = { λ flow. flow.bare };
+
+    ghost gets = { λ flow. flow.reads_rates };
 
     ghost bare_law = { λ core. refl };
 
-    fn open(alloc: Global, case: Case) -> Result<Bare, NoMemory> {
-        Bare::new(alloc, case)
+    fn open(alloc: Global, case: Case) -> Result<BareFlow, NoMemory> {
+        let bare = Bare::new(alloc, case)?;
+        let reads_rates = bare.case().reads_rates();
+        Ok(BareFlow { bare, reads_rates })
     }
 
     fn bare(&self) -> &Bare {
-        self
+        &self.bare
+    }
+
+    fn gets_rates(&self) -> bool {
+        self.reads_rates
     }
 
     fn hear(&mut self, ack: &Ack) {
-        Bare::hear(self, ack);
+        self.bare.hear(ack);
     }
 
     fn take(&mut self, _alloc: Global) -> Result<(), NoMemory> {
-        self.issue();
+        self.bare.issue();
         Ok(())
     }
 
     fn settle(&mut self) {
-        self.consult();
+        self.bare.consult();
     }
 }

@@ -1,13 +1,15 @@
 //! The rounds of a shared run: flows ask, the link answers, and workers do the flows' parts.
-ghost use Rattle.std.specs.Prelude.{◌≡◌, ◌+◌, ◌%◌, ◌<◌, ◌≤◌, [], length, IfOk, OnOk};
+ghost use Rattle.std.specs.Prelude.{◌≡◌, ◌+◌, ◌%◌, ◌<◌, ◌≤◌, [], length, slice_set, IfOk, OnOk};
 ghost use Rattle.ccp_base.specs.Limits.{most_flows, most_rounds, most_workers};
 ghost use Rattle.shared_link.specs.SharedLimits.{IsWithin};
 ghost use Rattle.shared_run.specs.Courses.{asks_in, acks_in_round, StandsAfter, HasEnded};
 ghost use Rattle.shared_run.specs.Orders.{AreDealt, IsDealtBefore, DealsOne};
+ghost use Rattle.shared_run.specs.KnownFlows.{IsKnown, AreKnown, AreRested};
 
 use crate::course::Course;
 use crate::desk::Desk;
-use crate::flows::{collect_asks, know_flows, none_left, rest_flow, rest_flows, with_rest};
+use crate::flows::{collect_asks, know_flows, none_left};
+use crate::known_flow::KnownFlows;
 use crate::line::Bell;
 use crate::order::{Order, begin_orders, open_orders};
 use crate::round_acks::RoundAcks;
@@ -21,11 +23,12 @@ use std::sync::Wait;
 use std::thread;
 use std::thread::Threads;
 
-/// The link at a run's end, and how many rounds there were.
+/// The link at a run's end, how many rounds there were, and what the caller knows of the flows then.
 #[derive(Drop)]
-pub(crate) struct RunEnd {
+pub(crate) struct RunEnd<C: Course> {
     pub(crate) link: SharedLink,
     pub(crate) rounds: u32,
+    pub(crate) known: KnownFlows<C>,
 }
 
 /// Puts the parts of a round into the orders of their workers: a flow that has acknowledgements is a part of worker
@@ -42,10 +45,13 @@ fn deal<C: Course>(
     requires lists { lists ≡ acks_in_round C.link C.cases round }
     requires few { length lists ≤ most_flows }
     requires round { round < most_rounds }
-    requires none { AreDealt workers [] orders.old }
+    requires none { AreDealt workers round [] orders.old }
+    requires known { AreKnown desk.old.known round }
+    requires places { length lists ≤ length desk.old.known }
     ensures link { desk.new.link ≡ desk.old.link }
-    ensures known { length desk.new.known.items ≡ length desk.old.known.items }
-    ensures orders { OnOk result (AreDealt workers lists orders.new) }
+    ensures count { OnOk result (length desk.new.known ≡ length desk.old.known) }
+    ensures rested { OnOk result (AreRested round lists desk.new.known) }
+    ensures orders { OnOk result (AreDealt workers round lists orders.new) }
 {
     let mut number = 0;
     for list in lists.into_vec() {
@@ -64,18 +70,24 @@ fn deal_part<C: Course>(
     workers: u32,
 ) -> Result<(), NoMemory>
     requires workers { 1 ≤ workers }
-    requires before { IsDealtBefore workers acks.number orders.old }
+    requires before { IsDealtBefore workers acks.round acks.number orders.old }
+    requires known { IsKnown desk.old.known acks.number acks.round }
     ensures link { desk.new.link ≡ desk.old.link }
-    ensures known { length desk.new.known.items ≡ length desk.old.known.items }
-    ensures orders { OnOk result (DealsOne workers (acks.number, acks.acks) orders.old orders.new) }
+    ensures rested { length acks.acks ≡ 0
+        → desk.new.known ≡ slice_set desk.old.known acks.number (acks.number, acks.round + 1) }
+    ensures same { 0 < length acks.acks → desk.new.known ≡ desk.old.known }
+    ensures orders { OnOk result (DealsOne workers acks.round (acks.number, acks.acks) orders.old orders.new) }
 {
     if acks.acks.as_slice().is_empty() {
-        rest_flow(desk.known.as_mut_slice(), &acks);
-        desk.link.give_back(acks.number, acks.into_acks());
+        desk.known.rest(&acks);
+        desk.give_back(acks);
         return Ok(());
     }
-    let acks = with_rest(desk.known.as_slice(), acks);
-    let worker = worker_of(acks.number, workers);
+    let mut acks = acks;
+    let number = acks.number;
+    let known = desk.known.at(number);
+    acks.rest_since(known);
+    let worker = worker_of(number, workers);
     orders[worker as usize].push(acks)
 }
 
@@ -102,23 +114,25 @@ fn run_round<'e, C: Course, F: RoundFlow, R: Wait, G: Gate>(
     requires workers { 1 ≤ length handles.old }
     requires few_workers { length handles.old ≤ most_workers }
     requires orders { length orders.old ≡ length handles.old }
-    requires known { length desk.old.known.items ≡ length C.cases }
+    requires count { length desk.old.known ≡ length C.cases }
+    requires known { AreKnown desk.old.known done }
     requires few { length C.cases ≤ most_flows }
     requires within { IsWithin C.link }
     requires links { length C.link.flows ≡ length C.cases }
     requires stands { StandsAfter C.link C.cases done desk.old.link }
     requires asks { desk.old.asks.items ≡ asks_in C.link C.cases done }
     requires rounds { done < most_rounds }
-    ensures known { length desk.new.known.items ≡ length C.cases }
+    ensures count { OnOk result (length desk.new.known ≡ length C.cases) }
+    ensures known { OnOk result (AreKnown desk.new.known (done + 1)) }
     ensures asks { OnOk result (desk.new.asks.items ≡ asks_in C.link C.cases (done + 1)) }
     ensures stands { OnOk result (StandsAfter C.link C.cases (done + 1) desk.new.link) }
 {
     let lists = desk.link.round(alloc, desk.asks.as_slice())?;
     let workers = handles.len() as u32;
-    begin_orders(orders);
+    begin_orders(orders, done);
     deal(desk, orders, lists, done, workers)?;
-    do_orders(rt, alloc, flows, desk, orders, handles, gate);
-    collect_asks(desk.known.as_slice(), done + 1, &mut desk.asks)
+    do_orders(rt, alloc, flows, desk, orders, handles, done, gate)?;
+    collect_asks(&desk.known, done + 1, &mut desk.asks)
 }
 
 /// Rounds until all flows have all acknowledgements, at most `most`. Answers how many there were.
@@ -133,18 +147,21 @@ fn run_rounds<'e, C: Course, F: RoundFlow, R: Wait, G: Gate>(
 ) -> Result<u32, NoMemory>
     requires workers { 1 ≤ length handles.old }
     requires few_workers { length handles.old ≤ most_workers }
-    requires known { length desk.old.known.items ≡ length C.cases }
+    requires count { length desk.old.known ≡ length C.cases }
+    requires known { AreKnown desk.old.known 0 }
     requires few { length C.cases ≤ most_flows }
     requires within { IsWithin C.link }
     requires links { length C.link.flows ≡ length C.cases }
     requires stands { StandsAfter C.link C.cases 0 desk.old.link }
     requires rounds { most ≤ most_rounds }
-    ensures { IfOk result (λ done. HasEnded C.link C.cases most done desk.new.link) }
+    ensures end { IfOk result (λ done. HasEnded C.link C.cases most done desk.new.link) }
+    ensures count { OnOk result (length desk.new.known ≡ length C.cases) }
+    ensures known { IfOk result (λ done. AreKnown desk.new.known done) }
 {
     let mut kept = open_orders(alloc, handles.len() as u32)?;
     let orders = kept.as_mut_slice();
     let mut done = 0;
-    collect_asks(desk.known.as_slice(), 0, &mut desk.asks)?;
+    collect_asks(&desk.known, 0, &mut desk.asks)?;
     while done < most {
         run_round(rt, alloc, flows, desk, orders, handles, done, gate)?;
         done += 1;
@@ -171,7 +188,7 @@ pub(crate) fn run_by_workers<
     most: u32,
     bells: &'e [Bell],
     gate: &'e G,
-) -> Result<RunEnd, NoMemory>
+) -> Result<RunEnd<C>, NoMemory>
     requires workers { 1 ≤ length bells.now }
     requires few_workers { length bells.now ≤ most_workers }
     requires flows { length flows.now ≡ length C.cases }
@@ -180,12 +197,14 @@ pub(crate) fn run_by_workers<
     requires links { length C.link.flows ≡ length C.cases }
     requires stands { StandsAfter C.link C.cases 0 link }
     requires rounds { most ≤ most_rounds }
-    ensures { IfOk result (λ end. HasEnded C.link C.cases most end.rounds end.link) }
+    ensures end { IfOk result (λ end. HasEnded C.link C.cases most end.rounds end.link) }
+    ensures count { IfOk result (λ end. length end.known ≡ length C.cases) }
+    ensures known { IfOk result (λ end. AreKnown end.known end.rounds) }
 {
     thread::scope(
         thread::scope_env(),
         rt,
-        move |scope| -> Result<RunEnd, NoMemory>
+        move |scope| -> Result<RunEnd<C>, NoMemory>
             requires workers { 1 ≤ length bells.now }
             requires few_workers { length bells.now ≤ most_workers }
             requires flows { length flows.now ≡ length C.cases }
@@ -194,7 +213,9 @@ pub(crate) fn run_by_workers<
             requires links { length C.link.flows ≡ length C.cases }
             requires stands { StandsAfter C.link C.cases 0 link }
             requires rounds { most ≤ most_rounds }
-            ensures { IfOk result (λ end. HasEnded C.link C.cases most end.rounds end.link) }
+            ensures end { IfOk result (λ end. HasEnded C.link C.cases most end.rounds end.link) }
+            ensures count { IfOk result (λ end. length end.known ≡ length C.cases) }
+            ensures known { IfOk result (λ end. AreKnown end.known end.rounds) }
         {
             let mut handles = start_workers(scope, rt, alloc, flows, bells, gate)?;
             let known = know_flows(rt, alloc, flows)?;
@@ -208,9 +229,16 @@ pub(crate) fn run_by_workers<
                 most,
                 gate,
             )?;
-            rest_flows(rt, flows, desk.known.as_slice());
-            let link = desk.into_link();
-            Ok(RunEnd { link, rounds })
+            let Desk {
+                link,
+                known,
+                asks: _,
+            } = desk;
+            Ok(RunEnd {
+                link,
+                rounds,
+                known,
+            })
         },
     )
 }

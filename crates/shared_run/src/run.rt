@@ -15,12 +15,12 @@ use crate::course::Course;
 use crate::flow::SharedFlow;
 use crate::flows::{close_flows, open_flows};
 use crate::line::Bell;
-use crate::round_flow::RoundFlow;
+use crate::round_flow::{BareFlow, RoundFlow};
 use crate::rounds::run_by_workers;
 use crate::run_flow::LockedRunFlow;
 use campaign_core::Cases;
 use ccp_base::{Gate, NoMemory, Workers};
-use flow_core::{Bare, Case, Core};
+use flow_core::{Case, Core};
 use scene_core::SharedScene;
 use shared_link::{Counts, SharedCase, SharedLink};
 use std::alloc::Global;
@@ -35,8 +35,8 @@ use std::thread::{Parker, Threads};
 /// a worker for which no thread can be started. A flow's next question comes back with its part; a flow without
 /// acknowledgements in a round stays as it is. A worker passes the gate at `InCase` before a part and at `AfterCase`
 /// after it. The run ends after the round in which all flows have all acknowledgements, and at the latest after
-/// `rounds` rounds; without flows no round is run. Then each flow takes and answers until nothing is left. A thread's
-/// answer that is lost is reported as out of memory.
+/// `rounds` rounds; without flows no round is run. Then each flow takes and answers until nothing is left. A run whose
+/// thread didn't send its parts back, or whose lock lost its flow, would wait forever.
 pub fn shared<R: Threads + Wait + Sync, G: Gate + Sync>(
     rt: &R,
     alloc: Global,
@@ -87,7 +87,7 @@ pub fn shared_rows<R: Threads + Wait + Sync, G: Gate + Sync>(
     // For all programs that the cases' codes simulate, the run is that of these sources.
     ensures lifted { RunHoldsForSources scene.link scene.scene.cases scene.rounds }
 {
-    let run = run::<Bare, R, G>(rt, alloc, scene, workers, gate)?;
+    let run = run::<BareFlow, R, G>(rt, alloc, scene, workers, gate)?;
     let rows = rows_of(alloc, run.flows.as_slice())?;
     Ok(SharedRows {
         rows,
@@ -173,7 +173,7 @@ fn run_course<
         gate,
     )?;
     let counts = end.link.counts();
-    let flows = close_flows(alloc, flows, end.rounds)?;
+    let flows = close_flows(rt, alloc, flows, &end.known, end.rounds)?;
     Ok(ClosedRun { flows, counts })
 }
 

@@ -1,5 +1,5 @@
 //! A flow of a run between two rounds.
-ghost use Rattle.std.specs.Prelude.{◌≡◌, ◌+◌, ◌↔◌, false, Some, length, IfOk, IsSome, IsTrue};
+ghost use Rattle.std.specs.Prelude.{◌≡◌, ◌+◌, ◌↔◌, Some, length, IfOk, IsOk, IsTrue};
 ghost use Rattle.shared_run.specs.RoundFlows.{run_flow_in};
 
 use crate::course::Course;
@@ -11,7 +11,7 @@ use ccp_base::NoMemory;
 use crossbeam_utils::CachePadded;
 use std::alloc::Global;
 use std::marker::PhantomData;
-use std::sync::Mutex;
+use std::sync::{Mutex, Wait};
 
 /// A flow of a run, its number, and how many rounds it is through. Unless its part of a round ran out of memory, it is
 /// that flow of the run after these rounds.
@@ -20,11 +20,10 @@ pub(crate) struct RunFlow<C: Course, F: RoundFlow> {
     flow: SharedFlow<F>,
     number: u32,
     round: u32,
-    /// Whether its part of the next round ran out of memory.
-    lacked_memory: bool,
+    /// What its last part of a round answered.
+    heard: Result<(), NoMemory>,
     of: PhantomData<C>,
-    ghost stands: { lacked_memory ≡ false
-        → run_flow_in F.at C.link C.cases round number ≡ Some (flow.flow, flow.tally) },
+    ghost stands: { IsOk heard → run_flow_in F.at C.link C.cases round number ≡ Some (flow.flow, flow.tally) },
 }
 
 /// A flow of a run behind its lock. The flows of a run are in one list, in which each has cache lines of its own: two
@@ -40,7 +39,7 @@ impl<C: Course, F: RoundFlow> RunFlow<C, F> {
             flow,
             number,
             round: 0,
-            lacked_memory: false,
+            heard: Ok(()),
             of: PhantomData,
         }
     }
@@ -48,52 +47,48 @@ impl<C: Course, F: RoundFlow> RunFlow<C, F> {
     /// Whether this is that flow after this many rounds.
     pub(crate) fn is_at(&self, number: u32, round: u32) -> bool
         ensures { IsTrue result
-            ↔ ((self.now.lacked_memory ≡ false) × (self.now.number ≡ number) × (self.now.round ≡ round)) }
+            ↔ (IsOk self.now.heard × (self.now.number ≡ number) × (self.now.round ≡ round)) }
     {
-        !self.lacked_memory && self.number == number && self.round == round
+        self.heard.is_ok() && self.number == number && self.round == round
     }
 
-    /// What the caller is to know of the flow. Nothing is known of a flow whose part ran out of memory.
-    pub(crate) fn known(&self) -> Option<KnownFlow<C>>
-        ensures { IsSome result ↔ (self.now.lacked_memory ≡ false) }
+    /// What the caller is to know of the flow, unless its part ran out of memory.
+    pub(crate) fn known(&self) -> Result<KnownFlow<C>, NoMemory>
+        ensures heard { IsOk result ↔ IsOk self.now.heard }
+        ensures number { IfOk result (λ known. known.number ≡ self.now.number) }
+        ensures round { IfOk result (λ known. known.round ≡ self.now.round) }
     {
-        if self.lacked_memory {
-            return None;
+        match self.heard {
+            Ok(()) => Ok(KnownFlow::new(self.number, self.round, self.flow.ask())),
+            Err(error) => Err(error),
         }
-        Some(KnownFlow::new(self.number, self.round, self.flow.ask()))
     }
 
     /// The flow's part of a round, in which it has these acknowledgements. It is through the round then, unless memory
     /// ran out on the way.
     pub(crate) fn hear(&mut self, alloc: Global, acks: &RoundAcks<C>)
-        requires whole { self.old.lacked_memory ≡ false }
+        requires whole { IsOk self.old.heard }
         requires number { self.old.number ≡ acks.now.number }
         requires since { self.old.round ≡ acks.now.since }
         ensures number { self.new.number ≡ self.old.number }
-        ensures through { self.new.lacked_memory ≡ false → self.new.round ≡ acks.now.round + 1 }
-        ensures nothing { length acks.now.acks ≡ 0 → self.new.lacked_memory ≡ false }
+        ensures through { IsOk self.new.heard → self.new.round ≡ acks.now.round + 1 }
+        ensures nothing { length acks.now.acks ≡ 0 → IsOk self.new.heard }
     {
         match self.flow.part(alloc, acks.acks.as_slice()) {
             Ok(()) => self.round = acks.round + 1,
-            Err(NoMemory) => self.lacked_memory = true,
+            Err(error) => self.heard = Err(error),
         }
     }
 
-    /// Goes on by the rounds in which the flow had no acknowledgement, as the caller knows.
-    pub(crate) fn rest(&mut self, known: &KnownFlow<C>) {
-        if self.is_at(known.number, known.since) {
-            self.round = known.round;
-        }
-    }
-
-    /// That flow after this many rounds. If it isn't there, that is reported as out of memory.
-    pub(crate) fn into_flow(self, number: u32, round: u32) -> Result<SharedFlow<F>, NoMemory>
-        ensures { IfOk result (λ shared.
-            run_flow_in F.at C.link C.cases round number ≡ Some (shared.flow, shared.tally)) }
+    /// That flow, which has rested since its last acknowledgement as the caller knows. The call waits forever if it
+    /// isn't the flow that the caller knows: a lock's type can't say that the lock kept it.
+    pub(crate) fn into_flow<R: Wait>(self, rt: &R, known: &KnownFlow<C>) -> SharedFlow<F>
+        ensures { run_flow_in F.at C.link C.cases known.now.round known.now.number ≡ Some (result.flow, result.tally) }
     {
-        if !self.is_at(number, round) {
-            return Err(NoMemory);
+        if !self.is_at(known.number, known.since) {
+            for _ in rt.forever() {}
+            unreachable!()
         }
-        Ok(self.flow)
+        self.flow
     }
 }

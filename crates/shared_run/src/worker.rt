@@ -1,7 +1,7 @@
 //! The work of a worker's thread.
 use crate::course::Course;
+use crate::dealt::Dealt;
 use crate::line::{Receiver, Sender};
-use crate::order::Order;
 use crate::round_flow::RoundFlow;
 use crate::run_flow::LockedRunFlow;
 use ccp_base::Gate;
@@ -13,17 +13,17 @@ pub(crate) fn serve<'e, C: Course, F: RoundFlow, R: Wait, G: Gate>(
     rt: &R,
     alloc: Global,
     flows: &[LockedRunFlow<C, F>],
-    orders: Receiver<'e, Order<C>>,
-    done: Sender<'e, Order<C>>,
+    orders: Receiver<'e, Dealt<C>>,
+    done: Sender<'e, Dealt<C>>,
     gate: &G,
 ) {
     let mut orders = orders;
     let mut done = done;
     for _ in rt.forever() {
-        let Some(mut order) = orders.receive(rt) else {
+        let Some(mut dealt) = orders.receive(rt) else {
             return;
         };
-        order.do_parts(rt, alloc, flows, gate);
-        let _unsent = done.send(order);
+        dealt.order.do_parts(rt, alloc, flows, gate);
+        let _unsent = done.send(dealt);
     }
 }

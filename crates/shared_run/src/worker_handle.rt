@@ -1,7 +1,13 @@
 //! The workers of a run as its caller has them: the caller hands out the orders of a round and takes them back.
-ghost use Rattle.std.specs.Prelude.{◌≡◌, ◌<◌, ◌≤◌, length, IfOk};
+ghost use Rattle.std.specs.Prelude.{◌≡◌, ◌+◌, ◌<◌, ◌≤◌, true, false, None, length, map, IfOk, IfSome, IsFalse, IsTrue, OnOk};
+ghost use Rattle.rtrb.specs.Ring.{sent};
+ghost use Rattle.ccp_base.specs.Limits.{most_workers};
+ghost use Rattle.shared_run.specs.Courses.{acks_in_round};
+ghost use Rattle.shared_run.specs.Orders.{order_of, parts_of_worker, AreDealt, IsDealtAt, AreIdle, IsSameFront, IsOneMore};
+ghost use Rattle.shared_run.specs.KnownFlows.{flow_rounds, with_rounds, with_rounds_back, IsDone, AreDone, AreDoneOrOut, StayKnown};
 
 use crate::course::Course;
+use crate::dealt::Dealt;
 use crate::desk::Desk;
 use crate::line::{Bell, Receiver, Sender, line};
 use crate::order::Order;
@@ -16,8 +22,8 @@ use std::thread::{Scope, Threads};
 /// The lines to a worker's thread and back.
 #[derive(Drop)]
 struct Lines<'e, C: Course> {
-    orders: Sender<'e, Order<C>>,
-    done: Receiver<'e, Order<C>>,
+    orders: Sender<'e, Dealt<C>>,
+    done: Receiver<'e, Dealt<C>>,
 }
 
 /// A worker, with the lines to its thread if it has one.
@@ -80,8 +86,8 @@ fn start_worker<
     if worker == 0 || flows.len() <= worker {
         return Ok(None);
     }
-    let (orders, coming) = line::<Order<C>>(alloc, &bells[worker])?;
-    let (going, done) = line::<Order<C>>(alloc, &bells[0])?;
+    let (orders, coming) = line::<Dealt<C>>(alloc, &bells[worker])?;
+    let (going, done) = line::<Dealt<C>>(alloc, &bells[0])?;
     let started = scope.spawn(move || serve(rt, alloc, flows, coming, going, gate));
     match started {
         Ok(_) => Ok(Some(Lines { orders, done })),
@@ -89,27 +95,73 @@ fn start_worker<
     }
 }
 
-impl<'e, C: Course> WorkerHandle<'e, C> {
-    /// Hands an order to the worker's thread, and says whether that has it then. If not, the order stays in its place.
-    fn hand_out(&mut self, alloc: Global, order: &mut Order<C>) -> bool {
-        let Some(lines) = &mut self.lines else {
-            return false;
-        };
-        if let Some(unsent) = lines.orders.send(order.take(alloc)) {
-            *order = unsent;
-            return false;
+impl<'e, C: Course> Lines<'e, C> {
+    /// Sends the worker's thread its order. If that can't be sent, it stays in its place.
+    fn send(&mut self, alloc: Global, order: &mut Order<C>) -> bool
+        requires { order.old
+            ≡ order_of order.old.workers order.old.worker order.old.round (acks_in_round C.link C.cases order.old.round) }
+        ensures sent { IsTrue result → IsOneMore order.old
+            (map (λ dealt. dealt.order) (sent self.old.orders.ring)) (map (λ dealt. dealt.order) (sent self.new.orders.ring)) }
+        ensures unsent { IsFalse result → order.new ≡ order.old }
+    {
+        match self.orders.send(Dealt::new(order.take(alloc))) {
+            Some(unsent) => {
+                *order = unsent.order;
+                false
+            }
+            None => true,
         }
-        self.is_busy = true;
-        true
     }
 
-    /// Waits until the worker's thread has done its order, if it has one.
-    fn take_back<R: Wait>(&mut self, rt: &R) -> Option<Order<C>> {
-        if !self.is_busy {
-            return None;
+    /// The next order that comes back from the worker's thread and is the worker's in this round. Any other is ignored:
+    /// a message's type can't say that it is the awaited one. The call waits forever if that doesn't come.
+    fn receive<R: Wait>(&mut self, rt: &R, worker: u32, workers: u32, round: u32) -> Order<C>
+        ensures { result ≡ order_of workers worker round (acks_in_round C.link C.cases round) }
+    {
+        for _ in rt.forever() {
+            if let Some(dealt) = self.done.receive(rt) {
+                let order = dealt.order;
+                if order.is_of(worker, workers, round) {
+                    return order;
+                }
+            }
         }
+        unreachable!()
+    }
+}
+
+impl<'e, C: Course> WorkerHandle<'e, C> {
+    /// Hands an order that has a part to the worker's thread, and says whether that has it then. If not, the order stays
+    /// in its place.
+    fn hand_out(&mut self, alloc: Global, order: &mut Order<C>) -> bool
+        requires { order.old
+            ≡ order_of order.old.workers order.old.worker order.old.round (acks_in_round C.link C.cases order.old.round) }
+        ensures busy { self.new.is_busy ≡ result }
+        ensures here { IsFalse result → order.new ≡ order.old }
+    {
         self.is_busy = false;
-        self.lines.as_mut()?.done.receive(rt)
+        if order.is_empty() {
+            return false;
+        }
+        self.is_busy = match &mut self.lines {
+            Some(lines) => lines.send(alloc, order),
+            None => false,
+        };
+        self.is_busy
+    }
+
+    /// Waits until the worker's thread has done its order of this round. The call waits forever if the worker has no
+    /// thread.
+    fn take_back<R: Wait>(&mut self, rt: &R, worker: u32, workers: u32, round: u32) -> Order<C>
+        ensures idle { self.new.is_busy ≡ false }
+        ensures order { result ≡ order_of workers worker round (acks_in_round C.link C.cases round) }
+    {
+        self.is_busy = false;
+        if let Some(lines) = &mut self.lines {
+            return lines.receive(rt, worker, workers, round);
+        }
+        for _ in rt.forever() {}
+        unreachable!()
     }
 }
 
@@ -117,9 +169,9 @@ impl<'e, C: Course> WorkerHandle<'e, C> {
 /// than they take.
 const FEW_ACKS: usize = 2048;
 
-/// Does all orders of a round, and leaves no part in them. In a round with few acknowledgements the caller does all of
-/// them. Else it does the first one that has a part, beside the threads that do the others: a thread is woken only if
-/// two workers have parts.
+/// Does all orders of a round, and leaves no part in them: then the caller knows every flow that has a part. In a round
+/// with few acknowledgements the caller does all of them. Else it does the first one that has a part, beside the threads
+/// that do the others: a thread is woken only if two workers have parts.
 pub(crate) fn do_orders<'e, C: Course, F: RoundFlow, R: Wait, G: Gate>(
     rt: &R,
     alloc: Global,
@@ -127,15 +179,23 @@ pub(crate) fn do_orders<'e, C: Course, F: RoundFlow, R: Wait, G: Gate>(
     desk: &mut Desk<C>,
     orders: &mut [Order<C>],
     handles: &mut [WorkerHandle<'e, C>],
+    round: u32,
     gate: &G,
-)
+) -> Result<(), NoMemory>
+    requires handles { length handles.old ≡ length orders.old }
+    requires few { length orders.old ≤ most_workers }
+    requires dealt { AreDealt (length orders.old) round (acks_in_round C.link C.cases round) orders.old }
+    requires within { length (acks_in_round C.link C.cases round) ≤ length desk.old.known }
     ensures link { desk.new.link ≡ desk.old.link }
-    ensures known { length desk.new.known.items ≡ length desk.old.known.items }
+    ensures count { OnOk result (length desk.new.known ≡ length desk.old.known) }
+    ensures stay { OnOk result (StayKnown (round + 1) desk.old.known desk.new.known) }
+    ensures done { OnOk result
+        (AreDone (length orders.old) round (acks_in_round C.link C.cases round) desk.new.known) }
 {
     if acks_in(orders) < FEW_ACKS {
-        do_all_here(rt, alloc, flows, desk, orders, gate);
+        do_all_here(rt, alloc, flows, desk, orders, round, gate)
     } else {
-        do_by_threads(rt, alloc, flows, desk, orders, handles, gate);
+        do_by_threads(rt, alloc, flows, desk, orders, handles, round, gate)
     }
 }
 
@@ -155,14 +215,25 @@ fn do_all_here<C: Course, F: RoundFlow, R: Wait, G: Gate>(
     flows: &[LockedRunFlow<C, F>],
     desk: &mut Desk<C>,
     orders: &mut [Order<C>],
+    round: u32,
     gate: &G,
-)
+) -> Result<(), NoMemory>
+    requires dealt { AreDealt (length orders.old) round (acks_in_round C.link C.cases round) orders.old }
+    requires within { length (acks_in_round C.link C.cases round) ≤ length desk.old.known }
     ensures link { desk.new.link ≡ desk.old.link }
-    ensures known { length desk.new.known.items ≡ length desk.old.known.items }
+    ensures count { OnOk result (length desk.new.known ≡ length desk.old.known) }
+    ensures stay { OnOk result (StayKnown (round + 1) desk.old.known desk.new.known) }
+    ensures done { OnOk result
+        (AreDone (length orders.old) round (acks_in_round C.link C.cases round) desk.new.known) }
 {
-    for order in orders.iter_mut().rev() {
-        do_here(rt, alloc, flows, desk, order, gate);
+    // for the contract alone
+    let _ = round;
+    let mut left = orders.len();
+    while left > 0 {
+        left -= 1;
+        orders[left].do_here(rt, alloc, flows, desk, gate)?;
     }
+    Ok(())
 }
 
 /// Does the first order that has a part here, and the others on their workers' threads, and leaves no part in them.
@@ -173,23 +244,66 @@ fn do_by_threads<'e, C: Course, F: RoundFlow, R: Wait, G: Gate>(
     desk: &mut Desk<C>,
     orders: &mut [Order<C>],
     handles: &mut [WorkerHandle<'e, C>],
+    round: u32,
     gate: &G,
-)
+) -> Result<(), NoMemory>
+    requires handles { length handles.old ≡ length orders.old }
+    requires few { length orders.old ≤ most_workers }
+    requires dealt { AreDealt (length orders.old) round (acks_in_round C.link C.cases round) orders.old }
+    requires within { length (acks_in_round C.link C.cases round) ≤ length desk.old.known }
     ensures link { desk.new.link ≡ desk.old.link }
-    ensures known { length desk.new.known.items ≡ length desk.old.known.items }
+    ensures count { OnOk result (length desk.new.known ≡ length desk.old.known) }
+    ensures stay { OnOk result (StayKnown (round + 1) desk.old.known desk.new.known) }
+    ensures done { OnOk result
+        (AreDone (length orders.old) round (acks_in_round C.link C.cases round) desk.new.known) }
 {
-    let idle = idle_at_front(orders);
-    let (_, busy) = orders.split_at_mut(idle);
-    if let Some((first, others)) = busy.split_first_mut() {
-        hand_out_all(rt, alloc, flows, desk, others, handles, gate);
-        do_here(rt, alloc, flows, desk, first, gate);
+    let first = idle_at_front(orders);
+    hand_out_all(
+        rt,
+        alloc,
+        flows,
+        desk,
+        orders,
+        handles,
+        first + 1,
+        round,
+        gate,
+    )?;
+    do_first(rt, alloc, flows, desk, orders, first, round, gate)?;
+    take_back_all(rt, desk, orders, handles, round)
+}
+
+/// Does the order in this place here, if there is one.
+fn do_first<C: Course, F: RoundFlow, R: Wait, G: Gate>(
+    rt: &R,
+    alloc: Global,
+    flows: &[LockedRunFlow<C, F>],
+    desk: &mut Desk<C>,
+    orders: &mut [Order<C>],
+    first: usize,
+    round: u32,
+    gate: &G,
+) -> Result<(), NoMemory>
+    requires dealt { IsDealtAt (length orders.old) round (acks_in_round C.link C.cases round) orders.old first }
+    requires within { length (acks_in_round C.link C.cases round) ≤ length desk.old.known }
+    ensures link { desk.new.link ≡ desk.old.link }
+    ensures count { OnOk result (length desk.new.known ≡ length desk.old.known) }
+    ensures stay { OnOk result (StayKnown (round + 1) desk.old.known desk.new.known) }
+    ensures done { OnOk result (first < length orders.old
+        → IsDone (length orders.old) round (acks_in_round C.link C.cases round) desk.new.known first) }
+{
+    // for the contract alone
+    let _ = round;
+    if first < orders.len() {
+        return orders[first].do_here(rt, alloc, flows, desk, gate);
     }
-    take_back_all(rt, desk, orders, handles);
+    Ok(())
 }
 
 /// How many orders without a part there are before the first one that has one.
 fn idle_at_front<C: Course>(orders: &[Order<C>]) -> usize
-    ensures { result ≤ length orders.now }
+    ensures within { result ≤ length orders.now }
+    ensures idle { AreIdle result orders.now }
 {
     let mut idle = 0;
     while idle < orders.len() && orders[idle].is_empty() {
@@ -198,7 +312,7 @@ fn idle_at_front<C: Course>(orders: &[Order<C>]) -> usize
     idle
 }
 
-/// Hands the orders that have a part to their workers' threads.
+/// Hands the orders from this place on that have a part to their workers' threads, or does them here.
 fn hand_out_all<'e, C: Course, F: RoundFlow, R: Wait, G: Gate>(
     rt: &R,
     alloc: Global,
@@ -206,54 +320,57 @@ fn hand_out_all<'e, C: Course, F: RoundFlow, R: Wait, G: Gate>(
     desk: &mut Desk<C>,
     orders: &mut [Order<C>],
     handles: &mut [WorkerHandle<'e, C>],
+    first: usize,
+    round: u32,
     gate: &G,
-)
+) -> Result<(), NoMemory>
+    requires handles { length handles.old ≡ length orders.old }
+    requires dealt { AreDealt (length orders.old) round (acks_in_round C.link C.cases round) orders.old }
+    requires within { length (acks_in_round C.link C.cases round) ≤ length desk.old.known }
     ensures link { desk.new.link ≡ desk.old.link }
-    ensures known { length desk.new.known.items ≡ length desk.old.known.items }
+    ensures count { OnOk result (length desk.new.known ≡ length desk.old.known) }
+    ensures stay { OnOk result (StayKnown (round + 1) desk.old.known desk.new.known) }
+    ensures front { OnOk result (IsSameFront first orders.old orders.new) }
+    ensures out { OnOk result (AreDoneOrOut (length orders.old) round (acks_in_round C.link C.cases round)
+        (map (λ handle. handle.is_busy) handles.new) desk.new.known first) }
 {
-    for order in orders.iter_mut() {
-        if !order.is_empty() {
-            hand_out(rt, alloc, flows, desk, order, handles, gate);
-        }
+    // for the contract alone
+    let _ = round;
+    for worker in first..orders.len() {
+        hand_out(
+            rt,
+            alloc,
+            flows,
+            desk,
+            &mut orders[worker],
+            &mut handles[worker],
+            gate,
+        )?;
     }
+    Ok(())
 }
 
-/// Hands an order to its worker's thread. If the worker has none, the order is done here.
+/// Hands an order to its worker's thread. If that doesn't have it then, the order is done here.
 fn hand_out<'e, C: Course, F: RoundFlow, R: Wait, G: Gate>(
     rt: &R,
     alloc: Global,
     flows: &[LockedRunFlow<C, F>],
     desk: &mut Desk<C>,
     order: &mut Order<C>,
-    handles: &mut [WorkerHandle<'e, C>],
+    handle: &mut WorkerHandle<'e, C>,
     gate: &G,
-)
+) -> Result<(), NoMemory>
+    requires { order.old
+        ≡ order_of order.old.workers order.old.worker order.old.round (acks_in_round C.link C.cases order.old.round) }
     ensures link { desk.new.link ≡ desk.old.link }
-    ensures known { length desk.new.known.items ≡ length desk.old.known.items }
+    ensures out { OnOk result (handle.new.is_busy ≡ true → desk.new.known ≡ desk.old.known) }
+    ensures here { OnOk result (handle.new.is_busy ≡ false → desk.new.known
+        ≡ with_rounds (flow_rounds order.old.round order.old.parts) desk.old.known) }
 {
-    let is_out = match handles.get_mut(order.worker() as usize) {
-        Some(handle) => handle.hand_out(alloc, order),
-        None => false,
-    };
-    if !is_out {
-        do_here(rt, alloc, flows, desk, order, gate);
+    if handle.hand_out(alloc, order) {
+        return Ok(());
     }
-}
-
-/// Does an order here.
-fn do_here<C: Course, F: RoundFlow, R: Wait, G: Gate>(
-    rt: &R,
-    alloc: Global,
-    flows: &[LockedRunFlow<C, F>],
-    desk: &mut Desk<C>,
-    order: &mut Order<C>,
-    gate: &G,
-)
-    ensures link { desk.new.link ≡ desk.old.link }
-    ensures known { length desk.new.known.items ≡ length desk.old.known.items }
-{
-    order.do_parts(rt, alloc, flows, gate);
-    order.hand_in(desk);
+    order.do_here(rt, alloc, flows, desk, gate)
 }
 
 /// Waits for the threads that have orders, and puts these back into their places.
@@ -262,21 +379,56 @@ fn take_back_all<'e, C: Course, R: Wait>(
     desk: &mut Desk<C>,
     orders: &mut [Order<C>],
     handles: &mut [WorkerHandle<'e, C>],
-)
+    round: u32,
+) -> Result<(), NoMemory>
+    requires handles { length handles.old ≡ length orders.old }
+    requires few { length orders.old ≤ most_workers }
+    requires out { AreDoneOrOut (length orders.old) round (acks_in_round C.link C.cases round)
+        (map (λ handle. handle.is_busy) handles.old) desk.old.known 0 }
+    requires within { length (acks_in_round C.link C.cases round) ≤ length desk.old.known }
     ensures link { desk.new.link ≡ desk.old.link }
-    ensures known { length desk.new.known.items ≡ length desk.old.known.items }
+    ensures count { OnOk result (length desk.new.known ≡ length desk.old.known) }
+    ensures stay { OnOk result (StayKnown (round + 1) desk.old.known desk.new.known) }
+    ensures done { OnOk result
+        (AreDone (length orders.old) round (acks_in_round C.link C.cases round) desk.new.known) }
 {
-    for handle in handles {
-        if let Some(mut order) = handle.take_back(rt) {
-            order.hand_in(desk);
-            put_back(orders, order);
-        }
+    let workers = orders.len() as u32;
+    for worker in 0..workers {
+        let place = worker as usize;
+        take_back(
+            rt,
+            desk,
+            &mut orders[place],
+            &mut handles[place],
+            worker,
+            workers,
+            round,
+        )?;
     }
+    Ok(())
 }
 
-/// Puts an order back into the place of its worker, so that its memory serves the next round.
-fn put_back<C: Course>(orders: &mut [Order<C>], order: Order<C>) {
-    if let Some(place) = orders.get_mut(order.worker() as usize) {
-        *place = order;
+/// Waits for a worker's thread if it has an order, and puts that back into its place, so that its memory serves the next
+/// round.
+fn take_back<'e, C: Course, R: Wait>(
+    rt: &R,
+    desk: &mut Desk<C>,
+    place: &mut Order<C>,
+    handle: &mut WorkerHandle<'e, C>,
+    worker: u32,
+    workers: u32,
+    round: u32,
+) -> Result<(), NoMemory>
+    ensures link { desk.new.link ≡ desk.old.link }
+    ensures idle { handle.new.is_busy ≡ false }
+    ensures none { handle.old.is_busy ≡ false → desk.new.known ≡ desk.old.known }
+    ensures known { OnOk result (handle.old.is_busy ≡ true → desk.new.known ≡ with_rounds_back
+        (flow_rounds round (parts_of_worker workers worker (acks_in_round C.link C.cases round))) desk.old.known) }
+{
+    if !handle.is_busy {
+        return Ok(());
     }
+    let order = handle.take_back(rt, worker, workers, round);
+    *place = order.hand_in(rt, desk)?;
+    Ok(())
 }

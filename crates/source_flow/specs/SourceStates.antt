@@ -1,27 +1,22 @@
 -- What is kept of a flow over its sources, and what holds of it.
-use Rattle.std.specs.Prelude.{◌≡◌, ℕ, ◌+◌, ◌≤◌, Bool, Option, Some, None, option_map, List, [], ◌∷◌, ◌++◌, length, map}
+use Rattle.std.specs.Prelude.{◌≡◌, ℕ, ◌+◌, ◌≤◌, Option, Some, None, [], ◌∷◌, ◌++◌, length, map}
 use Rattle.ccp_base.specs.Limits.{most_fields}
-use Rattle.ccp_base.specs.declared.exchange.Notice.{Notice}
-use Rattle.ccp_base.specs.declared.exchange.Report.{Report}
 use Rattle.ccp_base.specs.declared.place.Place.{Place}
 use Rattle.link_model.specs.Standing.{Stands}
-use Rattle.portus_core.specs.declared.env.Env.{Env}
 use Rattle.portus_core.specs.declared.env.Mean.{Mean}
 use Rattle.portus_core.specs.Value.{Cause}
 use Rattle.portus_core.specs.Programs.{Form}
 use Rattle.portus_core.specs.ProgramForm.{form_of}
 use Rattle.portus_core.specs.OneAcknowledgement.{IsEnvOf}
 use Rattle.portus_core.specs.Epoch.{Outcome, stopped, outcome_of}
-use Rattle.agent_core.specs.declared.agent.Agent.{Agent}
 use Rattle.agent_core.specs.Agents.{course_of}
 use Rattle.agent_core.specs.RoleLaws.{AreRoles}
-use Rattle.flow_core.specs.declared.bare.Issued.{Issued}
-use Rattle.flow_core.specs.declared.book.EpochLine.{EpochLine}
-use Rattle.flow_core.specs.declared.book.TicketLine.{TicketLine}
 use Rattle.flow_core.specs.Readings.{Flow, by_number, over_sources}
-use Rattle.flow_core.specs.World.{Failure, World, track_of, time_of, notice_of}
+use Rattle.flow_core.specs.World.{World}
 use Rattle.flow_core.specs.Books.{ticket_line, epoch_line}
-use Rattle.flow_core.specs.States.{issued_as, some_count}
+use Rattle.flow_core.specs.LiveText.{report_count}
+use Rattle.flow_core.specs.States.{some_count}
+use Rattle.flow_core.specs.Summaries.{Summary, summary}
 use Rattle.source_flow.specs.declared.source_case.SourceCase.{SourceCase}
 use Rattle.source_flow.specs.declared.state.State.{State}
 use Rattle.source_flow.specs.SourceAccounts.{failure_of}
@@ -41,66 +36,35 @@ outcome_met (Some mean) = outcome_of mean
 
 -- ---- what is kept
 
--- what is kept of a flow's state, but for the link
-pub record KeptFlow : Type 0 where
-  pub program : ℕ
-  pub epoch : ℕ
-  pub env : Env
-  pub is_stopped : Bool
-  pub first : ℕ
-  pub acks : ℕ
-  pub time : ℕ
-  pub waiting : List Report
-  pub untold : Option Notice
-  pub agent : Agent
-  pub out : Option Issued
-  pub tickets : List TicketLine
-  pub epochs : List EpochLine
-  pub faults : List (Failure Place)
-  pub held : ℕ
-
-abbrev pub kept_flow_in : State → KeptFlow
-kept_flow_in s = record {
+-- the summary of the state
+abbrev pub summary_in : State → Summary
+summary_in s = record {
   program = s.present.epoch.program;
   epoch = s.present.epoch.number;
-  env = s.present.env;
-  is_stopped = s.present.is_stopped;
-  first = s.present.epoch.first;
+  track = record {
+    env = s.present.env;
+    is_stopped = s.present.is_stopped;
+    first = s.present.epoch.first;
+    count = s.acks;
+  };
   acks = s.acks;
   time = s.time;
   waiting = s.waiting.items;
   untold = s.untold;
   agent = s.agent;
   out = s.out;
-  tickets = s.tickets;
-  epochs = s.epochs;
-  faults = map failure_of s.faults;
+  answered = length s.tickets;
+  told = report_count s.tickets;
+  faults = length s.faults;
   held = s.held;
-}
-
-abbrev pub kept_flow_of : Flow Place → World Place → KeptFlow
-kept_flow_of flow w = record {
-  program = w.present.program;
-  epoch = length w.past;
-  env = (track_of flow w).env;
-  is_stopped = (track_of flow w).is_stopped;
-  first = (track_of flow w).first;
-  acks = length w.acks;
-  time = time_of w.acks;
-  waiting = w.waiting;
-  untold = option_map (notice_of flow) w.untold;
-  agent = w.agent;
-  out = option_map (issued_as flow) w.out;
-  tickets = map (ticket_line flow) w.answered;
-  epochs = map epoch_line (w.past ++ w.present ∷ []);
-  faults = w.faults;
-  held = w.held;
 }
 
 -- what is kept is that of this state, and the link has given its acknowledgements
 pub record IsAt (flow : Flow Place) (s : State) (w : World Place) : Type 0 where
-  pub kept : kept_flow_in s ≡ kept_flow_of flow w
-  pub count : (track_of flow w).count ≡ length w.acks
+  pub kept : summary_in s ≡ summary flow w
+  pub tickets : s.tickets ≡ map (ticket_line flow) w.answered
+  pub epochs : s.epochs ≡ map epoch_line (w.past ++ w.present ∷ [])
+  pub faults : map failure_of s.faults ≡ w.faults
   pub stands : Stands s.link w.windows
 
 -- ---- what holds whatever the history

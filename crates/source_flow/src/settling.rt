@@ -1,5 +1,5 @@
 //! The answer to the ticket that is out is applied.
-ghost use Rattle.std.specs.Prelude.{◌≡◌, ◌+◌, ◌<◌, Some, None, IfOk, OnOk, length};
+ghost use Rattle.std.specs.Prelude.{◌≡◌, ◌+◌, ◌++◌, ◌∷◌, [], ◌<◌, Some, None, IfOk, OnOk, length};
 ghost use Rattle.ccp_base.specs.Limits.{most_acks};
 ghost use Rattle.ccp_base.specs.FieldReg.{first_bad_pair};
 ghost use Rattle.portus_core.specs.Epoch.{with_values, declared_env};
@@ -8,7 +8,7 @@ ghost use Rattle.portus_core.specs.ProgramForm.{form_of};
 ghost use Rattle.flow_core.specs.declared.letter.Letter.TheVariants.{C};
 ghost use Rattle.source_flow.specs.SourceStates.{form_at, IsSourceSound};
 ghost use Rattle.source_flow.specs.SourceMoves.{Makes};
-ghost use Rattle.source_flow.specs.SourceSteps.{AreGood, Changed, Closed, Obeyed};
+ghost use Rattle.source_flow.specs.SourceSteps.{answered_line, AreGood, Changed, Obeys};
 
 use crate::source_case::SourceCase;
 use crate::state::{Present, State};
@@ -33,7 +33,7 @@ pub(crate) fn start_env(
 {
     match program.start(alloc, values, cwnd, rate, now) {
         Ok(env) => Ok(env),
-        Err(StartFault::NoMemory) => Err(NoMemory),
+        Err(StartFault::NoMemory(error)) => Err(error),
         Err(StartFault::BadRegister(_)) => unreachable!(),
     }
 }
@@ -73,7 +73,9 @@ impl State {
 
     /// Records this answer to the ticket that is out.
     fn record_answer(&mut self, issued: &Issued, reply: Reply) -> Result<(), NoMemory>
-        ensures { OnOk result (Closed issued.now reply self.old self.new) }
+        ensures tickets { OnOk result
+            (self.new.tickets ≡ self.old.tickets ++ answered_line issued.now self.old.acks reply ∷ []) }
+        ensures frame { OnOk result (self.new ≡ record self.old { out = None; tickets = self.new.tickets }) }
     {
         self.tickets.push(TicketLine {
             told: issued.told,
@@ -95,7 +97,8 @@ impl State {
     ) -> Result<(), NoMemory>
         requires good { AreGood source.now agent.now reply.now }
         requires number { self.old.present.epoch.number < most_acks }
-        ensures { OnOk result (Obeyed source.now agent.now reply.now self.old self.new) }
+        requires shape { IsEnvOf (form_at source.now self.old.present.epoch.program) self.old.present.env }
+        ensures { OnOk result (Obeys source.now agent.now reply.now self.old self.new) }
     {
         match *reply {
             Reply::Nothing => Ok(()),

@@ -1,12 +1,12 @@
 -- What a worker did from a place on, and so what it did in all.
 use Rattle.std.proofs.Common.{◌≡◌, ℕ, suc, ◌+◌, ◌-◌, ◌<◌, Some, None, option_map, List, ◌∷◌, ◌++◌, length, take, drop, slice_index, sym, ap, ◌∙◌, subst, append_assoc, drop-cons, add-one, arith}
-use Rattle.worker_desk.specs.declared.event.Event.{Event}
+use Rattle.std.specs.Prelude.{Option}
 use Rattle.worker_desk.specs.declared.event.Heard.{Heard}
 use Rattle.worker_desk.specs.Logs.{KnownLog, Logs}
 use Rattle.worker_desk.specs.Serving.{turn, again, served, Serves}
 
 -- what is put at the end in turn is put there at once
-pub Logs-append : (old middle new : KnownLog) (first next : List Event) → Logs old middle first → Logs middle new next → Logs old new (first ++ next)
+pub Logs-append : {E : Type 0} (old middle new : Option (List E)) (first next : List E) → Logs old middle first → Logs middle new next → Logs old new (first ++ next)
 Logs-append None middle new first next before after = cc
 Logs-append (Some done) middle new first next before after =
     after ∙ ap (option_map (λ events. events ++ next)) before ∙ ap Some (append_assoc done first next)

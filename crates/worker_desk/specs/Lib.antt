@@ -5,7 +5,10 @@ pub mod Logs
 pub mod Serving
 pub mod Attending
 pub mod Equipping
+pub mod EveryNth
+pub mod Cases
 -- what follows from it, whatever the answers were
 pub mod ServingLaw
 pub mod EquippingLaw
 pub mod LocksLaw
+pub mod CasesLaw

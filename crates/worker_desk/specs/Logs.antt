@@ -7,5 +7,5 @@ abbrev pub KnownLog : Type 0
 KnownLog = Option (List Event)
 
 -- these events were put at the end of what was done
-abbrev pub Logs : KnownLog → KnownLog → List Event → Type 0
+abbrev pub Logs : {E : Type 0} → Option (List E) → Option (List E) → List E → Type 0
 Logs old new events = new ≡ option_map (λ done. done ++ events) old

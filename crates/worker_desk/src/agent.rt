@@ -56,7 +56,7 @@ fn take<D: AgentDesk>(desk: &mut D, flow: u32) -> Option<Ticket>
 {
     desk.lock(flow);
     let taken = desk.take(flow);
-    desk.unlock(flow);
+    drop(desk.unlock(flow));
     taken
 }
 
@@ -71,5 +71,5 @@ fn settle<D: AgentDesk>(desk: &mut D, flow: u32, answer: Answer)
 {
     desk.lock(flow);
     desk.settle(flow, answer);
-    desk.unlock(flow);
+    drop(desk.unlock(flow));
 }

@@ -11,6 +11,9 @@ use ccp_base::Point;
 
 /// What an agent worker works on.
 pub trait AgentDesk {
+    /// What keeps a flow's lock until it is dropped.
+    type Guard: Drop;
+
     // what was done here, if the desk keeps that
     ghost log: { Self → Option (List Event) };
 
@@ -29,6 +32,12 @@ pub trait AgentDesk {
     // what the settling of an answer made of that flow
     ghost HasSettled: { Self → Self → Ticket → Type 0 } = { λ old new answer. Unit {0} };
 
+    // what a call that makes no letter of the flow whose lock is held made of it
+    ghost HasKept: { Self → Self → Type 0 } = { λ old new. Unit {0} };
+
+    // the lock that was held is the guard's, and the guard has the flow as it was
+    ghost HasReleased: { Self → Self.Guard → Type 0 } = { λ old guard. Unit {0} };
+
     /// How many flows there are.
     fn flow_count(&self) -> u32
         ensures { result ≡ flows self.now };
@@ -36,6 +45,7 @@ pub trait AgentDesk {
     /// The number of a flow of which something waits, or None once no more come.
     fn receive(&mut self) -> Option<u32>
         ensures log { Logs (log self.old) (log self.new) (Received result ∷ []) }
+        ensures kept { HasKept self.old self.new }
         ensures held { held self.new ≡ held self.old }
         ensures flows { flows self.new ≡ flows self.old }
         ensures coming { IsSome result → coming self.new < coming self.old };
@@ -49,10 +59,11 @@ pub trait AgentDesk {
         ensures flows { flows self.new ≡ flows self.old }
         ensures coming { coming self.new ≡ coming self.old };
 
-    /// Gives the flow's lock back.
-    fn unlock(&mut self, flow: u32)
+    /// The guard of the flow's lock. Whoever drops it gives the lock back.
+    fn unlock(&mut self, flow: u32) -> Self::Guard
         requires { held self.old ≡ Some flow }
         ensures log { Logs (log self.old) (log self.new) (Unlocked flow ∷ []) }
+        ensures released { HasReleased self.old result }
         ensures held { held self.new ≡ None }
         ensures flows { flows self.new ≡ flows self.old }
         ensures coming { coming self.new ≡ coming self.old };
@@ -78,6 +89,7 @@ pub trait AgentDesk {
     /// Passes a point of the gate. The number is the flow's.
     fn pass(&mut self, worker: u32, point: Point, flow: u32)
         ensures log { Logs (log self.old) (log self.new) (Passed worker point flow ∷ []) }
+        ensures kept { HasKept self.old self.new }
         ensures held { held self.new ≡ held self.old }
         ensures flows { flows self.new ≡ flows self.old }
         ensures coming { coming self.new ≡ coming self.old };

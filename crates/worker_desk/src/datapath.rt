@@ -22,7 +22,7 @@ fn hear<D: Desk>(desk: &mut D, worker: u32, flow: u32) -> Heard
     desk.lock(flow);
     let answer = desk.ack(worker, flow);
     desk.pass(worker, Point::InAck, flow);
-    desk.unlock(flow);
+    drop(desk.unlock(flow));
     answer
 }
 

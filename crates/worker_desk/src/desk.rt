@@ -11,6 +11,9 @@ use ccp_base::Point;
 
 /// What a datapath worker works on.
 pub trait Desk {
+    /// What keeps a flow's lock until it is dropped.
+    type Guard: Drop;
+
     // what was done here, if the desk keeps that
     ghost log: { Self → Option (List Event) };
 
@@ -26,6 +29,12 @@ pub trait Desk {
     // what an ask made of the flow whose lock is held, and its answer
     ghost HasAcked: { Self → Self → Heard → Type 0 } = { λ old new answer. Unit {0} };
 
+    // what a call that makes no letter of the flow whose lock is held made of it
+    ghost HasKept: { Self → Self → Type 0 } = { λ old new. Unit {0} };
+
+    // the lock that was held is the guard's, and the guard has the flow as it was
+    ghost HasReleased: { Self → Self.Guard → Type 0 } = { λ old guard. Unit {0} };
+
     /// How many flows there are, at most 64.
     fn flow_count(&self) -> u32
         ensures flows { result ≡ flows self.now }
@@ -40,10 +49,11 @@ pub trait Desk {
         ensures flows { flows self.new ≡ flows self.old }
         ensures coming { coming self.new ≡ coming self.old };
 
-    /// Gives the flow's lock back.
-    fn unlock(&mut self, flow: u32)
+    /// The guard of the flow's lock. Whoever drops it gives the lock back.
+    fn unlock(&mut self, flow: u32) -> Self::Guard
         requires { held self.old ≡ Some flow }
         ensures log { Logs (log self.old) (log self.new) (Unlocked flow ∷ []) }
+        ensures released { HasReleased self.old result }
         ensures held { held self.new ≡ None }
         ensures flows { flows self.new ≡ flows self.old }
         ensures coming { coming self.new ≡ coming self.old };
@@ -60,6 +70,7 @@ pub trait Desk {
     /// Passes a point of the gate. The number is the flow's.
     fn pass(&mut self, worker: u32, point: Point, flow: u32)
         ensures log { Logs (log self.old) (log self.new) (Passed worker point flow ∷ []) }
+        ensures kept { HasKept self.old self.new }
         ensures held { held self.new ≡ held self.old }
         ensures flows { flows self.new ≡ flows self.old }
         ensures coming { coming self.new ≡ coming self.old };
@@ -67,6 +78,7 @@ pub trait Desk {
     /// Sends an agent worker the number of a flow of which a report or a fault waits.
     fn nudge(&mut self, flow: u32)
         ensures log { Logs (log self.old) (log self.new) (Nudged flow ∷ []) }
+        ensures kept { HasKept self.old self.new }
         ensures held { held self.new ≡ held self.old }
         ensures flows { flows self.new ≡ flows self.old }
         ensures coming { coming self.new ≡ coming self.old };

@@ -41,3 +41,12 @@ pub enum Event {
     /// Changed a flow to its library's next program, and whether there was one.
     Changed(u32, bool),
 }
+
+/// What a worker of a campaign did.
+#[derive(Clone, Copy)]
+pub enum CaseEvent {
+    /// Passed a point of the gate, with the worker's number and the case's.
+    Passed(u32, Point, u32),
+    /// Ran a case. If memory ran out in it, this is the worker's last event.
+    Ran(u32),
+}

@@ -21,6 +21,9 @@ pub trait InstallDesk {
     /// What the text of a step is built into.
     type Entry: Drop;
 
+    /// What keeps a flow's lock until it is dropped.
+    type Guard: Drop;
+
     // what was done here, if the desk keeps that
     ghost log: { Self → Option (List Event) };
 
@@ -42,6 +45,15 @@ pub trait InstallDesk {
     // when the source of a text was given
     ghost source_at: { Self.Text → Option ℕ };
 
+    // the source is that of this flow's texts
+    ghost IsOf: { Self → Self.Source → ℕ → Type 0 } = { λ desk source flow. Unit {0} };
+
+    // what came of building the text of a step from a source
+    ghost HasBuilt: { Self.Source → ℕ → Self.Text → Type 0 } = { λ source step text. Unit {0} };
+
+    // the entry is that of a text
+    ghost IsEntryOf: { Self.Text → Self.Entry → Type 0 } = { λ text entry. Unit {0} };
+
     // the step of an entry
     ghost step_of: { Self.Entry → ℕ };
 
@@ -50,6 +62,12 @@ pub trait InstallDesk {
 
     // what a change made of that flow, and whether there was one
     ghost HasChanged: { Self → Self → Bool → Type 0 } = { λ old new changed. Unit {0} };
+
+    // what a call that makes no letter of the flow whose lock is held made of it
+    ghost HasKept: { Self → Self → Type 0 } = { λ old new. Unit {0} };
+
+    // the lock that was held is the guard's, and the guard has the flow as it was
+    ghost HasReleased: { Self → Self.Guard → Type 0 } = { λ old guard. Unit {0} };
 
     /// How many flows there are, at most 64.
     fn flow_count(&self) -> u32
@@ -61,11 +79,13 @@ pub trait InstallDesk {
         requires flow { flow < flows self.now }
         requires free { held self.now ≡ None }
         ensures flow { flow_from result ≡ flow }
+        ensures of { IsOf self.now result flow }
         ensures at { given_at result ≡ option_map length (log self.now) };
 
     /// Builds the text of a step. It has no desk, so it can't take a lock.
     fn build(source: Self::Source, step: u32) -> Self::Text
         ensures task { task_of result ≡ record { flow = flow_from source; step = step } }
+        ensures built { HasBuilt source step result }
         ensures at { source_at result ≡ given_at source };
 
     /// The entry of a text; None if the flow has no such step, or memory ran out. Nothing was done since the text's
@@ -76,6 +96,7 @@ pub trait InstallDesk {
         ensures log { Logs (log self.old) (log self.new)
             (Built (task_of text).flow (task_of text).step (is_some result) ∷ []) }
         ensures step { IfSome result (λ entry. step_of entry ≡ (task_of text).step) }
+        ensures entry { IfSome result (IsEntryOf text) }
         ensures held { held self.new ≡ held self.old }
         ensures flows { flows self.new ≡ flows self.old };
 
@@ -87,10 +108,11 @@ pub trait InstallDesk {
         ensures held { held self.new ≡ Some flow }
         ensures flows { flows self.new ≡ flows self.old };
 
-    /// Gives the flow's lock back.
-    fn unlock(&mut self, flow: u32)
+    /// The guard of the flow's lock. Whoever drops it gives the lock back.
+    fn unlock(&mut self, flow: u32) -> Self::Guard
         requires { held self.old ≡ Some flow }
         ensures log { Logs (log self.old) (log self.new) (Unlocked flow ∷ []) }
+        ensures released { HasReleased self.old result }
         ensures held { held self.new ≡ None }
         ensures flows { flows self.new ≡ flows self.old };
 
@@ -113,6 +135,7 @@ pub trait InstallDesk {
     /// Passes a point of the gate. The number is the flow's.
     fn pass(&mut self, worker: u32, point: Point, flow: u32)
         ensures log { Logs (log self.old) (log self.new) (Passed worker point flow ∷ []) }
+        ensures kept { HasKept self.old self.new }
         ensures held { held self.new ≡ held self.old }
         ensures flows { flows self.new ≡ flows self.old };
 }

@@ -100,7 +100,7 @@ fn install<D: InstallDesk>(desk: &mut D, flow: u32, entry: D::Entry) -> bool
 {
     desk.lock(flow);
     let is_next = desk.install(flow, entry);
-    desk.unlock(flow);
+    drop(desk.unlock(flow));
     is_next
 }
 
@@ -114,6 +114,6 @@ fn change<D: InstallDesk>(desk: &mut D, flow: u32) -> bool
 {
     desk.lock(flow);
     let changed = desk.change(flow);
-    desk.unlock(flow);
+    drop(desk.unlock(flow));
     changed
 }

@@ -1,5 +1,6 @@
-//! The laws of workers: which flows a datapath worker asks, which texts an installer builds, and that each worker holds
-//! one lock at a time.
+//! The laws of workers: which flows a datapath worker asks, which texts an installer builds, that each worker holds one
+//! lock at a time, and which cases a campaign's workers run.
+ghost use Rattle.worker_desk.specs.CasesLaw.{WorkerRunsOnce, WorkersRunOnce};
 ghost use Rattle.worker_desk.specs.EquippingLaw.{EquippingLaw};
 ghost use Rattle.worker_desk.specs.LocksLaw.{ServingKeepsLocks, AttendingKeepsLocks, EquippingKeepsLocks};
 ghost use Rattle.worker_desk.specs.ServingLaw.{ServingLaw};
@@ -25,4 +26,12 @@ pub fn locks_law()
     ensures serving { ServingKeepsLocks }
     ensures attending { AttendingKeepsLocks }
     ensures equipping { EquippingKeepsLocks }
+{}
+
+/// What a worker of a campaign did if memory didn't run out: it runs each of its cases once, in order, and no other
+/// case. It passes the gate at `InCase` directly before each run and at `AfterCase` directly after it, and at no other
+/// time. All workers of a campaign together run each of its cases once.
+pub fn cases_law()
+    ensures worker { WorkerRunsOnce }
+    ensures workers { WorkersRunOnce }
 {}

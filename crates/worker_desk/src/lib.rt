@@ -3,6 +3,8 @@
 
 mod agent;
 mod agent_desk;
+mod case_desk;
+mod cases;
 mod datapath;
 mod desk;
 mod event;
@@ -14,10 +16,14 @@ mod row;
 
 pub use agent::run_agent_worker;
 pub use agent_desk::AgentDesk;
+pub use case_desk::{CaseDesk, GatedDesk};
+pub use cases::{run_between_points, run_cases};
 pub use datapath::run_datapath_worker;
 pub use desk::Desk;
-pub use event::{Event, Heard};
+pub use event::{CaseEvent, Event, Heard};
 pub use install_desk::InstallDesk;
 pub use installer::run_installer;
-pub use laws::{equipping_law, locks_law, serving_law};
-pub use receipt::{Attended, Duty, Equipped, Post, Served};
+pub use laws::{cases_law, equipping_law, locks_law, serving_law};
+pub use receipt::{
+    Attended, CaseDuty, CaseRun, CasesRun, Duty, Equipped, Post, Served, WorkerCase,
+};

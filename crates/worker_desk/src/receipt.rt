@@ -78,3 +78,48 @@ impl Promise<Attended> for Post {
 
     ghost kept_by = { λ post attended. attended ≡ post };
 }
+
+/// A campaign worker's number, and its share of the first `cases` cases: the cases `c` with `c mod workers = worker`.
+#[derive(Clone, Copy)]
+pub struct CaseDuty {
+    pub worker: u32,
+    pub workers: u32,
+    pub cases: u32,
+}
+
+/// The work of a campaign's worker was done, and memory didn't run out. Only `run_cases` makes one; contracts see what
+/// the worker's duty was.
+#[derive(Drop)]
+pub struct CasesRun {
+    pub(crate) duty: CaseDuty,
+}
+
+impl Model for CasesRun {
+    ghost use Rattle.worker_desk.specs.declared.receipt.CaseDuty.{CaseDuty};
+
+    ghost Value = { CaseDuty };
+
+    ghost view = { λ r. r.duty };
+}
+
+/// A case, and the number of the worker that runs it.
+#[derive(Clone, Copy)]
+pub struct WorkerCase {
+    pub worker: u32,
+    pub case: u32,
+}
+
+/// A case was run to its end between its two points of the gate. Only `run_between_points` makes one; contracts see
+/// which case it was, and which worker ran it.
+#[derive(Drop)]
+pub struct CaseRun {
+    pub(crate) ran: WorkerCase,
+}
+
+impl Model for CaseRun {
+    ghost use Rattle.worker_desk.specs.declared.receipt.WorkerCase.{WorkerCase};
+
+    ghost Value = { WorkerCase };
+
+    ghost view = { λ r. r.ran };
+}

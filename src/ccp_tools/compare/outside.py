@@ -1,14 +1,14 @@
-"""Senders that are agents outside: their runs by `drive`, and the recordings of these."""
+"""Senders that are agents outside: their runs by `drive`, and the recordings of these. What drives them is imported
+where a sender is one, since few comparisons have any."""
 
 from __future__ import annotations
 
 import hashlib
 from dataclasses import dataclass
 from pathlib import Path
-from typing import Any, Mapping, Sequence
+from typing import Any, Dict, Mapping, Sequence
 
 from .. import program
-from ..drive.agents import load_agent, run_file
 from ..errors import CcpError
 from ..files import read_bytes
 from ..senders import Sender
@@ -36,11 +36,18 @@ def check(senders: Sequence[Sender], path: Path) -> None:
     outside = [one for one in senders if one.file]
     for one in outside:
         try:
-            load_agent(str(one.file))
+            programs_of(str(one.file))
         except CcpError as error:
             raise CcpError("the sender %s: %s" % (one.label, error)) from None
     if outside and not program.knows_mode("drive", path):
         raise CcpError("the sender %s is an agent outside, and %s has no mode drive" % (outside[0].label, path))
+
+
+def programs_of(file: str) -> Dict[str, str]:
+    """The programs of the agent in a file, by their names. A CcpError where it has none."""
+    from ..drive.agents import load_agent
+
+    return dict(load_agent(file).programs)
 
 
 def recording_path(folder: Path, label: str, number: int) -> Path:
@@ -50,6 +57,8 @@ def recording_path(folder: Path, label: str, number: int) -> Path:
 
 def record(label: str, file: str, part: Mapping[str, Any], path: Path, ccp: Path) -> Recording:
     """Lets the agent of a file drive the flows of a part, and keeps what it sent at a path."""
+    from ..drive.agents import run_file
+
     try:
         made = run_file(file, part, program=ccp, record=path)
     except CcpError as error:

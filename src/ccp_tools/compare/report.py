@@ -20,7 +20,6 @@ import pandas as pd
 from matplotlib.figure import Figure
 
 from .. import metrics, plots, program, slow_start
-from ..drive.agents import load_agent
 from ..interrupts import without_interrupts
 from ..metrics import SHOWN, Window, counted
 from ..plots import Look
@@ -28,7 +27,7 @@ from ..scenario_files import Scenario
 from ..senders import resolved
 from ..traces import Trace, gap_warning, gaps_of, trace_times
 from . import shared
-from .outside import file_sha256
+from .outside import file_sha256, programs_of
 from .runs import Results, joined, shown_cases
 
 # the columns of the report's table, and those of the printed one with their short names
@@ -84,6 +83,8 @@ Job = Tuple[str, str, str, Callable[[], List[Figure]]]
 def drawn_all(jobs: Sequence[Job], folder: Path, look: Look, forms: Sequence[str]) -> List[Plot]:
     """Draws plots, as SVG and in each of the forms, one process each as far as there are processors. matplotlib uses
     one of them alone."""
+    for form in (".svg", *forms):
+        plots.load_writer(form)
 
     def work(at: int) -> Tuple[List[Path], List[str]]:
         name, _, _, make = jobs[at]
@@ -93,7 +94,10 @@ def drawn_all(jobs: Sequence[Job], folder: Path, look: Look, forms: Sequence[str
         others = [path for form in forms if form != ".svg" for path in plots.save(pages, folder / (name + form), look)]
         return plots.save(pages, folder / (name + ".svg"), look), [path.name for path in others]
 
-    files = in_processes(work, len(jobs))
+    # those that take longest begin first: the points of all packets, and bars with their numbers
+    order = sorted(range(len(jobs)), key=lambda at: jobs[at][0] not in ("delay", "bars"))
+    drawn = dict(zip(order, in_processes(lambda at: work(order[at]), len(jobs))))
+    files = [drawn[at] for at in range(len(jobs))]
     return [
         Plot(name, head, what, tuple(some), tuple(others))
         for (name, head, what, _), (some, others) in zip(jobs, files)
@@ -109,11 +113,15 @@ def in_processes(work: Callable[[int], Any], count: int) -> List[Any]:
     FORKED["work"] = work
     # the processes end soon, and looking for garbage would copy the memory that they share
     gc.freeze()
-    # an interrupt is for this process alone, which then ends them
-    with without_interrupts():
-        pool = multiprocessing.get_context("fork").Pool(processors, initializer=begin_forked)
-    with pool:
+    pool = None
+    try:
+        # an interrupt is for this process alone, which then ends them; one that comes meanwhile is raised below
+        with without_interrupts():
+            pool = multiprocessing.get_context("fork").Pool(processors, initializer=begin_forked)
         return pool.map(forked, range(count), chunksize=1)
+    finally:
+        if pool is not None:
+            pool.terminate()
 
 
 def begin_forked() -> None:
@@ -456,7 +464,7 @@ class Page:
         found, texts = resolved(self.arguments.senders, self.arguments.portus)
         made = []
         for one, word in zip(found, self.arguments.senders.words):
-            own = load_agent(one.file).programs if one.file else {name: texts[name] for name in one.programs()}
+            own = programs_of(one.file) if one.file else {name: texts[name] for name in one.programs()}
             programs = [{"name": name, "text": text, "sha256": sha256(text)} for name, text in own.items()]
             files = [
                 {"name": recording.path.name, "sha256": recording.sha256}

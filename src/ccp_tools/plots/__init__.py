@@ -30,7 +30,7 @@ files with a number, which are named on standard error."""
 from .command import add_arguments, add_look, look_of, run
 from .over_time import flows
 from .packets import cdf, delay, named_flows
-from .pages import FONT, KINDS, MOST_SENDERS, Look, drawn, save
+from .pages import FONT, KINDS, MOST_SENDERS, Look, drawn, load_writer, save
 from .points import bars, check_metrics, overall, points_of, said_of, scatter
 from .shared_link import link_page, shared_runs, shared_tables, shares, shares_of_acks
 
@@ -48,6 +48,7 @@ __all__ = [
     "drawn",
     "flows",
     "link_page",
+    "load_writer",
     "look_of",
     "named_flows",
     "overall",

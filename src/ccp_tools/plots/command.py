@@ -18,7 +18,7 @@ from ..errors import CcpError
 from ..files import name_of, read_text
 from ..frames import AckFrame, Timeline, acks_in, read_timeline
 from ..metrics import SHOWN
-from ..scenario_files import read_scenario, scenario_of
+from ..scenario_files import read_run_scenario, scenario_of
 from . import over_time, packets, pages, points, shared_link
 from .pages import FONT, MOST_SENDERS, SIZES, Look
 from .series import column
@@ -141,7 +141,7 @@ def check_numbers(wanted: Sequence[int] | None, known: Sequence[int], path: str)
 
 def pages_of_trips(arguments: argparse.Namespace) -> List[Figure]:
     """Distributions, or each packet over time."""
-    scenario = read_scenario(arguments.scenario) if arguments.scenario else None
+    scenario = read_run_scenario(arguments.scenario) if arguments.scenario else None
     found = acks_of(arguments.text, arguments.flows)
     if arguments.until:
         kept = [one.frame[one.frame["now"] <= arguments.until] for one in found]
@@ -165,7 +165,7 @@ def pages_of_flows(arguments: argparse.Namespace) -> List[Figure]:
     """The pages of `flows`."""
     timeline = timeline_in(arguments.text)
     check_numbers(arguments.flows, list(timeline.ends["flow"]), arguments.text)
-    scenario = read_scenario(arguments.scenario) if arguments.scenario else None
+    scenario = read_run_scenario(arguments.scenario) if arguments.scenario else None
     wanted = arguments.flows if arguments.flows is not None else [int(number) for number in timeline.ends["flow"]]
     acks = {flow.number: flow for flow in acks_of(arguments.acks_file, wanted)} if arguments.acks_file else None
     if not arguments.quiet:
@@ -237,7 +237,7 @@ def check_counts(timeline: Timeline, rows: Mapping[str, Any], path: str) -> None
 def own_rows(path: str | None, rows: Sequence[Mapping[str, Any]]) -> List[Dict[str, Any]]:
     """The scenario's columns of each row of a table, or what its cases' names say."""
     if path:
-        own = {row["case"]: row for row in metrics.columns_of(read_scenario(path), path)[1]}
+        own = {row["case"]: row for row in metrics.columns_of(read_run_scenario(path), path)[1]}
         return [dict(packets.known_case(own, row["case"])) for row in rows]
     splits = [split_name(row) for row in rows]
     if not all(splits):
@@ -259,7 +259,7 @@ def pages_of_shares(arguments: argparse.Namespace) -> List[Figure]:
     text, look = read_text(arguments.text), look_of(arguments)
     if not text.startswith("flow "):
         return [shares_of_scenario(scenario_of(text, name_of(arguments.text)), arguments, look)]
-    scenario = read_scenario(arguments.scenario) if arguments.scenario else None
+    scenario = read_run_scenario(arguments.scenario) if arguments.scenario else None
     if scenario is None and not arguments.quiet:
         note("--scenario gives the link's capacity and the queue")
     try:

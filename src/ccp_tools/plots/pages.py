@@ -12,6 +12,7 @@ import matplotlib
 import numpy as np
 from matplotlib import font_manager
 from matplotlib.axes import Axes
+from matplotlib.backend_bases import get_registered_canvas_class
 from matplotlib.figure import Figure
 from matplotlib.lines import Line2D
 from matplotlib.patches import Patch
@@ -239,9 +240,11 @@ def broken_texts(text: str) -> List[str]:
 
 
 def length_of(text: str, label: Text) -> float:
-    """The length of the longest line of a text in points, with the font of a label."""
+    """The length of the longest line of a text in points, with the font of a label. It is that of the outlines' points,
+    which a font has where an outline is widest; to look for extrema of the curves takes a quarter of a plot's time."""
     font, size = label.get_fontproperties(), label.get_fontsize()
-    return max(TextPath((0, 0), line, size=size, prop=font).get_extents().width for line in text.split("\n"))
+    outlines = [TextPath((0, 0), line, size=size, prop=font) for line in text.split("\n")]
+    return max(float(np.ptp(one.vertices[one.codes != TextPath.CLOSEPOLY, 0])) for one in outlines)
 
 
 # ---- files
@@ -253,6 +256,11 @@ def kind_of_file(path: str | Path) -> str:
     if kind not in KINDS:
         raise CcpError("%s: the name of a plot ends with .svg, .png, .pdf or .eps" % path)
     return kind
+
+
+def load_writer(kind: str) -> None:
+    """Imports what writes a kind of file, which saving imports too: before a fork, each process has it."""
+    get_registered_canvas_class(kind[1:])
 
 
 def page_path(path: str | Path, number: int) -> Path:
@@ -294,4 +302,8 @@ def drawn(look: Look, work: Callable[[], List[Figure]]) -> List[Figure]:
         made = work()
         for figure in made:
             fit_labels(figure)
+            for axis in (axis for panel in figure.axes for axis in (panel.xaxis, panel.yaxis)):
+                if not axis.get_label_text():
+                    # a place that needn't be found: that takes as long as all ticks of the axis
+                    axis.set_label_coords(0, 0)
         return made

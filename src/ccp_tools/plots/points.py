@@ -257,4 +257,5 @@ def overall(frame: pd.DataFrame, look: Look = Look()) -> List[Figure]:
     names = ("queueing_p95_ms", "utilization")
     over = frame.groupby(["sender", "trace"], sort=False)[list(names)].mean().reset_index()
     cases = over.assign(group="mean over %d traces" % over["trace"].nunique(), sender=over["sender"].astype(str))
-    return scatter(Points(metrics.groups(cases, ["group", "sender"], names), cases), *names, look)
+    means = metrics.groups(cases, ["group", "sender"], names, has_intervals=False)
+    return scatter(Points(means, cases), *names, look)

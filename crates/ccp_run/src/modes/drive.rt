@@ -69,7 +69,12 @@ fn end_drive<E: Sink>(alloc: Global, errors: &mut E, ended: DriveEnd) -> Outcome
         DriveEnd::Refused(refusal) => refuse(alloc, refusal, errors),
         DriveEnd::ReadFailed => end_without(alloc, errors, Status::ReadFailed, READ_LINE),
         DriveEnd::WriteFailed => end_without(alloc, errors, Status::WriteFailed, WRITE_LINE),
-        DriveEnd::NoMemory => end_without(alloc, errors, Status::NoMemory, MEMORY_LINE),
+        DriveEnd::NoMemory(error) => end_without(
+            alloc,
+            errors,
+            Status::NoMemory(error),
+            MEMORY_LINE,
+        ),
     }
 }
 

@@ -106,7 +106,7 @@ fn hear_out<S: Source>(
         DriveEnd::Refused(refusal) => Err(Stop::Refused(refusal)),
         DriveEnd::ReadFailed => Err(Stop::ReadFailed),
         DriveEnd::WriteFailed => unreachable!(),
-        DriveEnd::NoMemory => Err(Stop::NoMemory),
+        DriveEnd::NoMemory(error) => Err(Stop::NoMemory(error)),
     }
 }
 

@@ -43,6 +43,11 @@ fn end_feed<E: Sink>(alloc: Global, errors: &mut E, ended: FeedEnd) -> Outcome
         FeedEnd::TooLong => refuse(alloc, Refusal::TooLong(Limit::Input), errors),
         FeedEnd::ReadFailed => end_without(alloc, errors, Status::ReadFailed, READ_LINE),
         FeedEnd::WriteFailed => end_without(alloc, errors, Status::WriteFailed, WRITE_LINE),
-        FeedEnd::NoMemory => end_without(alloc, errors, Status::NoMemory, MEMORY_LINE),
+        FeedEnd::NoMemory(error) => end_without(
+            alloc,
+            errors,
+            Status::NoMemory(error),
+            MEMORY_LINE,
+        ),
     }
 }

@@ -42,7 +42,7 @@ fn fold_output(alloc: Global, bytes: &[u8]) -> Result<ModeOutput, Stop>
         Ok(acks) => Ok(run_fold(alloc, built, acks.as_slice())?),
         Err(LineFault::Line(number)) => Err(Stop::Refused(Refusal::Line(number))),
         Err(LineFault::TooMany) => Err(Stop::Refused(Refusal::TooManyAcks)),
-        Err(LineFault::NoMemory) => Err(Stop::NoMemory),
+        Err(LineFault::NoMemory(error)) => Err(Stop::NoMemory(error)),
     }
 }
 

@@ -16,7 +16,9 @@ use crate::refusal::Limit;
 use crate::scene::scene;
 use crate::stop::Stop;
 use agent_loop::live;
+use campaign_core::Cases;
 use ccp_base::{Gate, NoMemory, Source, Workers};
+use flow_core::Cell;
 use flow_table::FlowTable;
 use scenario_json::{Scenario, SceneMode};
 use std::alloc::Global;
@@ -57,6 +59,17 @@ fn live_output<R: Threads + Wait + Sync, G: Gate + Sync>(
     Ok(run_live(rt, alloc, datapaths, agents, wire, scene, gate)?)
 }
 
+/// The table of the flows of these cases.
+// for the prover: the lemma about flows' numbers is searched with here, and not in the caller
+#[tactic(auto, using(crate::proofs::LiveLemmas::flows_numbered))]
+fn table(alloc: Global, cases: Cases) -> Result<FlowTable<Cell>, NoMemory>
+    requires few { length cases ≤ most_flows }
+    requires flows { AreFlowsFrom 0 cases }
+    ensures { IfOk result (λ table. table ≡ cases) }
+{
+    FlowTable::new(alloc, cases)
+}
+
 /// The output for the flows of a scenario.
 fn run_live<R: Threads + Wait + Sync, G: Gate + Sync>(
     rt: &R,
@@ -74,7 +87,7 @@ fn run_live<R: Threads + Wait + Sync, G: Gate + Sync>(
     ensures programs { IfOk result (λ output. output.programs ≡ scene.programs) }
     ensures tells { IfOk result (TellsLive wire scene.programs scene.cases) }
 {
-    let table = FlowTable::new(alloc, scene.cases)?;
+    let table = table(alloc, scene.cases)?;
     let books = live(rt, alloc, table, datapaths, agents, gate)?;
     let text = books_text(alloc, wire, &books, &scene.programs)?;
     Ok(ModeOutput::with_books(text, books, scene.programs))

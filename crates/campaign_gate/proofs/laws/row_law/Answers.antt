@@ -1,5 +1,5 @@
 use Rattle.campaign_core.proofs.PlanLemmas.{plan-is-legal, plan-is-complete}
-use Rattle.campaign_gate.proofs.ReportsMadeLemmas.{row-counts-reports}
+use Rattle.campaign_gate.proofs.RowReportsLemmas.{row-counts-reports}
 use Rattle.campaign_gate.proofs.laws.row_law.Goals as goal
 
 pub returns-clause-legal : goal.returns-clause-legal

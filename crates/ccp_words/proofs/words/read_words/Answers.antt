@@ -1,4 +1,5 @@
 use Rattle.std.proofs.Common.{◌≡◌, ◌∙◌, ◌≢◌, true, false, Some, Ok, IfOk, OnOk, IfErr, ok_or, map, string_bytes, ap, sym, subst, inl, inr, ℕ, List, Result}
+use Rattle.ccp_base.specs.Outside.{no_memory}
 use Rattle.ccp_words.specs.Words.{HasWorkers, IsCommandLine, are_accepted, asked_in}
 use Rattle.ccp_words.specs.declared.words.Asked.{Asked}
 use Rattle.ccp_words.specs.declared.words.Unasked.{Unasked}
@@ -37,7 +38,7 @@ returns-in-Ok-clause-err c =
     let words : List (List ℕ) = map string_bytes c.args.words.now in
     let asked = asks c.in_ok-command.field-0 line words c.in-Ok.matches c.in-Ok.ensures.parsed c.in-Ok.ensures.matches c.read_matches.result c.read_matches.ensures.mode c.read_matches.ensures.options in
     let answer : c.ok_or.result ≡ Ok asked.0 = c.ok_or.ensures.value ∙ ap (λ o. ok_or o Refused) asked.1 in
-    subst (λ (r : Result Asked Unasked). IfErr r (λ e. e ≢ NoMemory → are_accepted words ≡ false)) (sym answer) tt
+    subst (λ (r : Result Asked Unasked). IfErr r (λ e. e ≢ NoMemory no_memory → are_accepted words ≡ false)) (sym answer) tt
 
 pub returns : goal.returns
 returns c =

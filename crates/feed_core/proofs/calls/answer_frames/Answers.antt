@@ -9,11 +9,11 @@ use Rattle.feed_core.proofs.FeedBegins.{ends-unbegun}
 use Rattle.feed_core.proofs.FeedInput.{feeds-input}
 use Rattle.feed_core.proofs.calls.answer_frames.Goals as goal
 
-pub returns-in_default-clause-follows : goal.returns-in_default-clause-follows
-returns-in_default-clause-follows g c = g.met.D.Duplex.follows_itself c.args.duplex.now
+pub returns-in-Err-clause-follows : goal.returns-in-Err-clause-follows
+returns-in-Err-clause-follows g c = g.met.D.Duplex.follows_itself c.args.duplex.now
 
-pub returns-in_default-clause-fed : goal.returns-in_default-clause-fed
-returns-in_default-clause-fed g c = ends-unbegun (g.D.Duplex.remaining c.args.duplex.now) (g.D.Duplex.written c.args.duplex.now) (g.D.Duplex.read_faults c.args.duplex.now) (g.D.Duplex.read_faults c.args.duplex.now) (g.D.Duplex.write_faults c.args.duplex.now) (g.D.Duplex.write_faults c.args.duplex.now) (g.D.Duplex.is_finished c.args.duplex.now)
+pub returns-in-Err-clause-fed : goal.returns-in-Err-clause-fed
+returns-in-Err-clause-fed g c = ends-unbegun (g.D.Duplex.remaining c.args.duplex.now) (g.D.Duplex.written c.args.duplex.now) (g.D.Duplex.read_faults c.args.duplex.now) (g.D.Duplex.read_faults c.args.duplex.now) (g.D.Duplex.write_faults c.args.duplex.now) (g.D.Duplex.write_faults c.args.duplex.now) (g.D.Duplex.is_finished c.args.duplex.now)
 
 pub returns-clause-fed : goal.returns-clause-fed
 returns-clause-fed g c =

@@ -17,7 +17,7 @@ loop-name-preserved c =
     let sorted = subst (λ es. IsStrictlySortedBy string_cmp (keys_of es)) all c.iter-name-items.ensures.ordered in
     let named : string_bytes c.in_ok-from_str.field-0 ≡ string_bytes e.0 = search rules in
     let read : named_trace (string_bytes e.0) (view e.1) ≡ Ok c.in_ok-trace.trace =
-    ap (λ n. named_trace n (view e.1)) (sym c.as_str.ensures.value) ∙ c.in_ok-trace.ensures.ok in
+    ap (λ n. named_trace n (view e.1)) (sym c.as_str.ensures.value) ∙ c.in_ok-trace.ensures in
     let pushed = traces_pushed l.traces.entries done e left c.in_ok-from_str.field-0 c.in_ok-trace.trace c.insert.new.self.entries c.in_ok-insert.ensures.entries named l.invariant.2 sorted read in (
       done ++ e ∷ [],
       all ∙ sym (append_assoc done (e ∷ []) left),

@@ -1,13 +1,22 @@
-use Rattle.std.proofs.Common.{◌≡◌, ◌+◌, [], ◌∷◌, ◌++◌, length, rules}
+use Rattle.std.proofs.Common.{rules, ◌≡◌, Some, [], ◌∷◌, ◌++◌, slice_get, sym, ap, ◌∙◌}
+use Rattle.std.proofs.lemmas.Option.{slice_get_within}
 use Rattle.shared_run.specs.Courses.{asks_in}
+use Rattle.shared_run.specs.KnownFlows.{FlowRound}
+use Rattle.shared_run.proofs.AnswerLemmas.{same-some}
 use Rattle.shared_run.proofs.CourseLemmas.{taken_on}
 use Rattle.shared_run.proofs.flows.collect_asks.Goals as goal
 
-pub loop-flow-preserved : goal.loop-flow-preserved
-loop-flow-preserved g c =
-    let l = c.loop-flow in
-    let all = asks_in g.C.Course.link g.C.Course.cases c.args.round in
-    let ask = c.in_ok-ask.field-0 in
-    let fewer : l.number + 1 + length c.in-Some.later.now ≡ length c.args.known.now = search rules in
-    let pushed : c.push.new.self.items ≡ l.asks.items ++ ask ∷ [] = search rules in
-    (taken_on all l.asks.items c.push.new.self.items l.number ask l.invariant.0 pushed c.in_ok-ask.ensures, fewer)
+pub loop-number-preserved : goal.loop-number-preserved
+loop-number-preserved g c =
+    let l = c.loop-number in
+    let link = g.C.Course.link in
+    let cases = g.C.Course.cases in
+    let known = c.args.known.now in
+    let flow = c.at.result.now in
+    let within = slice_get_within known l.number (flow.number, flow.round) c.at.ensures in
+    let same : (flow.number, flow.round) ≡ (l.number, c.args.round) =
+    same-some (flow.number, flow.round) (l.number, c.args.round) (sym c.at.ensures ∙ c.requires.known l.number within) in
+    let asks : slice_get (asks_in link cases c.args.round) l.number ≡ Some c.ask.result =
+    ap (λ (f : FlowRound). slice_get (asks_in link cases f.1) f.0) (sym same) ∙ c.ask.ensures in
+    let pushed : c.push.new.self.items ≡ l.asks.items ++ c.ask.result ∷ [] = search rules in
+    taken_on (asks_in link cases c.args.round) l.asks.items c.push.new.self.items l.number c.ask.result l.invariant pushed asks

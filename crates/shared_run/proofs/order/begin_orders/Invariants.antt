@@ -3,4 +3,4 @@ use Rattle.shared_run.proofs.OrderLemmas.{AreOpen}
 use Rattle.shared_run.proofs.order.begin_orders.Given as goal
 
 abbrev pub invariant-loop-order : goal.invariant-loop-order
-invariant-loop-order g l = (l.worker ≡ l.order-index) × AreOpen l.workers l.worker l.orders
+invariant-loop-order g l = (l.worker ≡ l.order-index) × AreOpen l.workers l.round l.worker l.orders

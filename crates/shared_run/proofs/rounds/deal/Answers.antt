@@ -1,9 +1,11 @@
-use Rattle.std.proofs.Common.{◌≡◌, ◌+◌, ◌≤◌, List, [], ◌∷◌, ◌++◌, Some, take, length, slice_get, arith, ap, sym, refl, ◌∙◌, subst}
+use Rattle.std.proofs.Common.{◌≡◌, ◌+◌, ◌≤◌, ◌<◌, ℕ, set, List, [], ◌∷◌, ◌++◌, Some, take, length, slice_get, arith, ap, sym, refl, ◌∙◌, subst}
 use Rattle.std.proofs.lemmas.List.{length-take-le}
 use Rattle.std.specs.Vec.Iter.{into_iter_items}
 use Rattle.ccp_base.specs.declared.ack.Ack.{Ack}
 use Rattle.shared_run.specs.Courses.{acks_in_round}
 use Rattle.shared_run.specs.Orders.{AreDealt}
+use Rattle.shared_run.specs.KnownFlows.{IsKnown}
+use Rattle.shared_run.proofs.KnownLemmas.{DealsKnown, dealt-length, dealt-from, dealt-rested}
 use Rattle.shared_run.proofs.CourseLemmas.{drop_get, dropped_on, taken_on}
 use Rattle.shared_run.proofs.RoomyLemmas.{flows-roomy}
 use Rattle.shared_run.proofs.rounds.deal.Goals as goal
@@ -26,26 +28,64 @@ deal_part-requires-clause-before g c =
     let all = acks_in_round g.C.Course.link g.C.Course.cases c.args.round in
     let is : into_iter_items l.list-iterator ≡ c.in-Some.list ∷ into_iter_items c.next.new.self = c.in-Some.ensures.steps.0 in
     let shorter = ap (λ (xs : List (List Ack)). length xs) is in
-    let within : l.number ≤ length all = omega (arith, shorter, l.invariant.1) in
-    (take l.number all, length-take-le l.number all within ∙ sym c.new-acks.ensures.number, l.invariant.3)
+    let within : l.number ≤ length all = omega (arith, shorter, l.invariant.1) in (
+      take l.number all,
+      length-take-le l.number all within ∙ sym c.new-acks.ensures.number,
+      subst (λ (r : ℕ). AreDealt c.args.workers r (take l.number all) l.orders) (sym c.new-acks.ensures.round) l.invariant.3,
+    )
+
+pub deal_part-requires-clause-known : goal.deal_part-requires-clause-known
+deal_part-requires-clause-known g c =
+    let l = c.loop-list in
+    let all = acks_in_round g.C.Course.link g.C.Course.cases c.args.round in
+    let is : into_iter_items l.list-iterator ≡ c.in-Some.list ∷ into_iter_items c.next.new.self = c.in-Some.ensures.steps.0 in
+    let shorter = ap (λ (xs : List (List Ack)). length xs) is in
+    let many = ap (λ (xs : List (List Ack)). length xs) c.requires.lists in
+    let less : l.number < length l.desk.known = omega (arith, shorter, l.invariant.1, l.invariant.5, c.requires.places, many) in
+    let here : IsKnown l.desk.known l.number c.args.round = l.invariant.6 l.number (omega arith) less in
+    subst (λ (r : ℕ). IsKnown l.desk.known c.new-acks.result.number r) (sym c.new-acks.ensures.round)
+    (subst (λ (n : ℕ). IsKnown l.desk.known n c.args.round) (sym c.new-acks.ensures.number) here)
 
 pub loop-list-preserved : goal.loop-list-preserved
 loop-list-preserved g c =
     let l = c.loop-list in
-    let all = acks_in_round g.C.Course.link g.C.Course.cases c.args.round in
+    let link = g.C.Course.link in
+    let cases = g.C.Course.cases in
+    let round = c.args.round in
+    let workers = c.args.workers in
+    let number = l.number in
+    let all = acks_in_round link cases round in
+    let list = c.in-Some.list in
+    let acks = c.new-acks.result in
+    let old = l.desk.known in
+    let new = c.deal_part.new.desk.known in
     let rest = into_iter_items c.next.new.self in
-    let is : into_iter_items l.list-iterator ≡ c.in-Some.list ∷ rest = c.in-Some.ensures.steps.0 in
+    let is : into_iter_items l.list-iterator ≡ list ∷ rest = c.in-Some.ensures.steps.0 in
     let shorter = ap (λ (xs : List (List Ack)). length xs) is in
-    let within : l.number ≤ length all = omega (arith, shorter, l.invariant.1) in
-    let at : slice_get all l.number ≡ Some c.in-Some.list = drop_get all l.number c.in-Some.list rest (sym is ∙ l.invariant.0) in
-    let acks : c.new-acks.result.acks ≡ c.in-Some.list = c.new-acks.ensures.acks in
-    let longer : take l.number all ++ c.new-acks.result.acks ∷ [] ≡ take (l.number + 1) all =
-    ap (λ (a : List Ack). take l.number all ++ a ∷ []) acks ∙ taken_on all (take l.number all) (take l.number all ++ c.in-Some.list ∷ []) l.number c.in-Some.list refl refl at in
-    let dealt = c.in_ok-deal_part.ensures.orders (take l.number all) (length-take-le l.number all within ∙ sym c.new-acks.ensures.number) l.invariant.3 in (
-      dropped_on all l.number c.in-Some.list rest (sym is ∙ l.invariant.0),
+    let many = ap (λ (xs : List (List Ack)). length xs) c.requires.lists in
+    let within : number ≤ length all = omega (arith, shorter, l.invariant.1) in
+    let at : slice_get all number ≡ Some list = drop_get all number list rest (sym is ∙ l.invariant.0) in
+    let same : acks.acks ≡ list = c.new-acks.ensures.acks in
+    let longer : take number all ++ acks.acks ∷ [] ≡ take (number + 1) all =
+    ap (λ (a : List Ack). take number all ++ a ∷ []) same ∙ taken_on all (take number all) (take number all ++ list ∷ []) number list refl refl at in
+    let dealt : AreDealt workers acks.round (take number all ++ acks.acks ∷ []) c.deal_part.new.orders =
+    c.in_ok-deal_part.ensures.orders (take number all) (length-take-le number all within ∙ sym c.new-acks.ensures.number)
+    (subst (λ (r : ℕ). AreDealt workers r (take number all) l.orders) (sym c.new-acks.ensures.round) l.invariant.3) in
+    let deals : DealsKnown round workers all number list old new = record {
+      rested =
+          (λ none.
+          c.in_ok-deal_part.ensures.rested (ap (λ (xs : List Ack). length xs) same ∙ none)
+          ∙ (λ i. set old (c.new-acks.ensures.number i) (c.new-acks.ensures.number i, c.new-acks.ensures.round i + 1)));
+      same = (λ some. c.in_ok-deal_part.ensures.same (subst (λ (xs : List Ack). 0 < length xs) (sym same) some));
+    } in
+    let less : number < length old = omega (arith, shorter, l.invariant.1, l.invariant.5, c.requires.places, many) in (
+      dropped_on all number list rest (sym is ∙ l.invariant.0),
       omega (arith, shorter, l.invariant.1),
       omega (arith, shorter, c.in-Some.ensures.steps.1, l.invariant.2),
-      subst (λ (xs : List (List Ack)). AreDealt c.args.workers xs c.deal_part.new.orders) longer dealt,
+      subst (λ (xs : List (List Ack)). AreDealt workers round xs c.deal_part.new.orders) longer
+          (subst (λ (r : ℕ). AreDealt workers r (take number all ++ acks.acks ∷ []) c.deal_part.new.orders) c.new-acks.ensures.round dealt),
       c.in_ok-deal_part.ensures.link ∙ l.invariant.4,
-      c.in_ok-deal_part.ensures.known ∙ l.invariant.5,
+      dealt-length round workers all number list old new deals ∙ l.invariant.5,
+      dealt-from round workers all number list old new deals l.invariant.6,
+      dealt-rested round workers all number list old new less at deals l.invariant.7,
     )

@@ -2,6 +2,8 @@ use Rattle.std.proofs.Common.{◌≡◌, ◌+◌, take, drop, length}
 use Rattle.std.specs.Vec.Iter.{into_iter_items, into_iter_len}
 use Rattle.shared_run.specs.Courses.{acks_in_round}
 use Rattle.shared_run.specs.Orders.{AreDealt}
+use Rattle.shared_run.specs.KnownFlows.{AreKnownFrom}
+use Rattle.shared_run.proofs.KnownLemmas.{AreRestedBelow}
 use Rattle.shared_run.proofs.rounds.deal.Given as goal
 
 abbrev pub invariant-loop-list : goal.invariant-loop-list
@@ -9,6 +11,8 @@ invariant-loop-list g l =
     (into_iter_items l.list-iterator ≡ drop l.number (acks_in_round g.C.Course.link g.C.Course.cases l.round))
     × (l.number + length (into_iter_items l.list-iterator) ≡ length (acks_in_round g.C.Course.link g.C.Course.cases l.round))
     × (into_iter_len l.list-iterator ≡ length (into_iter_items l.list-iterator))
-    × AreDealt l.workers (take l.number (acks_in_round g.C.Course.link g.C.Course.cases l.round)) l.orders
+    × AreDealt l.workers l.round (take l.number (acks_in_round g.C.Course.link g.C.Course.cases l.round)) l.orders
     × (l.desk.link ≡ l.fn.desk.link)
-    × (length l.desk.known.items ≡ length l.fn.desk.known.items)
+    × (length l.desk.known ≡ length l.fn.desk.known)
+    × AreKnownFrom l.number l.desk.known l.round
+    × AreRestedBelow l.round l.workers (acks_in_round g.C.Course.link g.C.Course.cases l.round) l.number l.desk.known

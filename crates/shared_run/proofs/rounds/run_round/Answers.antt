@@ -1,4 +1,4 @@
-use Rattle.std.proofs.Common.{◌≡◌, ◌+◌, List, length, arith, sym, ap, ◌∙◌, subst}
+use Rattle.std.proofs.Common.{rules, ◌≡◌, ◌+◌, ◌<◌, ℕ, List, length, arith, sym, ap, ◌∙◌, subst}
 use Rattle.ccp_base.specs.declared.ack.Ack.{Ack}
 use Rattle.shared_link.specs.declared.round.Ask.{Ask}
 use Rattle.shared_link.specs.declared.shared_case.SharedCase.{SharedCase}
@@ -6,6 +6,9 @@ use Rattle.shared_link.specs.SharedRounds.{acks_after}
 use Rattle.flow_core.specs.Readings.{over_codes}
 use Rattle.shared_link.specs.SharedStanding.{SharedState}
 use Rattle.shared_run.specs.Courses.{run_after, acks_in_round, StandsAfter}
+use Rattle.shared_run.specs.Orders.{AreDealt}
+use Rattle.shared_run.specs.KnownFlows.{AreRested}
+use Rattle.shared_run.proofs.KnownLemmas.{all-known}
 use Rattle.shared_run.proofs.CourseLemmas.{on-ok, asks-count, acks-count, stands-next}
 use Rattle.shared_run.proofs.rounds.run_round.Goals as goal
 
@@ -35,15 +38,88 @@ deal-requires-clause-few g c =
     let many = ap (λ (xs : List (List Ack)). length xs) lists in
     omega (arith, many, acks-count link cases c.args.done, c.requires.links, c.requires.few)
 
+pub deal-requires-clause-places : goal.deal-requires-clause-places
+deal-requires-clause-places g c =
+    let link = g.C.Course.link in
+    let cases = g.C.Course.cases in
+    let history = (run_after link over_codes cases c.args.done).history in
+    let lists : c.in_ok-lists.lists ≡ acks_in_round link cases c.args.done =
+    c.in_ok-lists.ensures.acks history c.requires.stands.stands
+    ∙ (λ i. acks_after (c.requires.stands.case i) history ((c.as_slice.ensures.value ∙ c.requires.asks) i)) in
+    let many = ap (λ (xs : List (List Ack)). length xs) lists in
+    omega (arith, many, acks-count link cases c.args.done, c.requires.links, c.requires.count)
+
+pub do_orders-requires-clause-dealt : goal.do_orders-requires-clause-dealt
+do_orders-requires-clause-dealt g c =
+    let link = g.C.Course.link in
+    let cases = g.C.Course.cases in
+    let history = (run_after link over_codes cases c.args.done).history in
+    let lists : c.in_ok-lists.lists ≡ acks_in_round link cases c.args.done =
+    c.in_ok-lists.ensures.acks history c.requires.stands.stands
+    ∙ (λ i. acks_after (c.requires.stands.case i) history ((c.as_slice.ensures.value ∙ c.requires.asks) i)) in
+    let workers : length c.args.handles.now ≡ length c.deal.new.orders = search rules in
+    subst (λ (n : ℕ). AreDealt n c.args.done (acks_in_round link cases c.args.done) c.deal.new.orders) workers
+    (subst (λ (xs : List (List Ack)). AreDealt (length c.args.handles.now) c.args.done xs c.deal.new.orders) lists c.in_ok-deal.ensures.orders)
+
+pub do_orders-requires-clause-within : goal.do_orders-requires-clause-within
+do_orders-requires-clause-within g c =
+    let count = c.in_ok-deal.ensures.count in
+    omega (arith, acks-count g.C.Course.link g.C.Course.cases c.args.done, c.requires.links, c.requires.count, count)
+
+pub collect_asks-requires-clause-known : goal.collect_asks-requires-clause-known
+collect_asks-requires-clause-known g c =
+    let link = g.C.Course.link in
+    let cases = g.C.Course.cases in
+    let history = (run_after link over_codes cases c.args.done).history in
+    let all = acks_in_round link cases c.args.done in
+    let lists : c.in_ok-lists.lists ≡ all =
+    c.in_ok-lists.ensures.acks history c.requires.stands.stands
+    ∙ (λ i. acks_after (c.requires.stands.case i) history ((c.as_slice.ensures.value ∙ c.requires.asks) i)) in
+    let workers = length c.deal.new.orders in
+    let some : 0 < workers = search rules in
+    let new = c.do_orders.new.desk.known in
+    let dealt = c.in_ok-deal.ensures.count in
+    let done = c.in_ok-do_orders.ensures in
+    let count = done.count in
+    let long : length new ≡ length all = omega (arith, dealt, count, acks-count link cases c.args.done, c.requires.links, c.requires.count) in
+    let rested : AreRested c.args.done all c.deal.new.desk.known = subst (λ (xs : List (List Ack)). AreRested c.args.done xs c.deal.new.desk.known) lists c.in_ok-deal.ensures.rested in
+    all-known c.args.done workers all new some long
+    (λ number acks at none. done.stay number (rested number acks at none)) done.done
+
 pub collect_asks-requires-clause-flows : goal.collect_asks-requires-clause-flows
 collect_asks-requires-clause-flows g c =
-    ap length c.as_slice-2.ensures.value ∙ c.do_orders.ensures.known ∙ c.in_ok-deal.ensures.known ∙ c.requires.known
+    c.in_ok-do_orders.ensures.count ∙ c.in_ok-deal.ensures.count ∙ c.requires.count
     ∙ sym (asks-count g.C.Course.link g.C.Course.cases (c.args.done + 1))
 
 pub returns-clause-stands : goal.returns-clause-stands
 returns-clause-stands g c =
-    let same : c.do_orders.new.desk.link ≡ c.round.new.self = c.do_orders.ensures.link ∙ c.in_ok-deal.ensures.link in
+    let same : c.do_orders.new.desk.link ≡ c.round.new.self = c.in_ok-do_orders.ensures.link ∙ c.in_ok-deal.ensures.link in
     on-ok c.collect_asks.result
     (subst (λ (state : SharedState). StandsAfter g.C.Course.link g.C.Course.cases (c.args.done + 1) state) (sym same)
     (stands-next g.C.Course.link g.C.Course.cases c.args.done c.args.desk.now.link c.round.new.self c.as_slice.result.now c.requires.stands c.in_ok-lists.ensures.case
     c.in_ok-lists.ensures.rounds c.in_ok-lists.ensures.stands (c.as_slice.ensures.value ∙ c.requires.asks)))
+
+pub returns-clause-count : goal.returns-clause-count
+returns-clause-count g c =
+    on-ok c.collect_asks.result (c.in_ok-do_orders.ensures.count ∙ c.in_ok-deal.ensures.count ∙ c.requires.count)
+
+pub returns-clause-known : goal.returns-clause-known
+returns-clause-known g c =
+    let link = g.C.Course.link in
+    let cases = g.C.Course.cases in
+    let history = (run_after link over_codes cases c.args.done).history in
+    let all = acks_in_round link cases c.args.done in
+    let lists : c.in_ok-lists.lists ≡ all =
+    c.in_ok-lists.ensures.acks history c.requires.stands.stands
+    ∙ (λ i. acks_after (c.requires.stands.case i) history ((c.as_slice.ensures.value ∙ c.requires.asks) i)) in
+    let workers = length c.deal.new.orders in
+    let some : 0 < workers = search rules in
+    let new = c.do_orders.new.desk.known in
+    let dealt = c.in_ok-deal.ensures.count in
+    let done = c.in_ok-do_orders.ensures in
+    let count = done.count in
+    let long : length new ≡ length all = omega (arith, dealt, count, acks-count link cases c.args.done, c.requires.links, c.requires.count) in
+    let rested : AreRested c.args.done all c.deal.new.desk.known = subst (λ (xs : List (List Ack)). AreRested c.args.done xs c.deal.new.desk.known) lists c.in_ok-deal.ensures.rested in
+    on-ok c.collect_asks.result
+    (all-known c.args.done workers all new some long
+    (λ number acks at none. done.stay number (rested number acks at none)) done.done)

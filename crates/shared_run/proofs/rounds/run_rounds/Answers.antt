@@ -5,13 +5,13 @@ use Rattle.shared_run.specs.Courses.{flows_after, asks_in, none_left}
 use Rattle.shared_run.proofs.CourseLemmas.{none_asked, way_begins, way_on, way_ends, way_over}
 use Rattle.shared_run.proofs.rounds.run_rounds.Goals as goal
 
-pub returns-then-none_left : goal.returns-then-none_left
-returns-then-none_left g c =
+pub returns-then-none_left-clause-end : goal.returns-then-none_left-clause-end
+returns-then-none_left-clause-end g c =
     let l = c.loop-done in
     let link = g.C.Course.link in
     let cases = g.C.Course.cases in
     let less : l.done < c.args.most = omega (arith, c.loop-done-test.true) in
-    let asked : c.as_slice-in-loop-done.result.now ≡ asks_in link cases (l.done + 1) = c.as_slice-in-loop-done.ensures.value ∙ c.in_ok-run_round.ensures.asks in
+    let asked : c.as_slice.result.now ≡ asks_in link cases (l.done + 1) = c.as_slice.ensures.value ∙ c.in_ok-run_round.ensures.asks in
     let has : have_all (flows_after link cases (l.done + 1)) ≡ true =
     sym (none_asked (flows_after link cases (l.done + 1))) ∙ sym (ap (λ (asks : List Ask). none_left asks) asked) ∙ sym c.none_left.ensures
     ∙ c.if-none_left.true in
@@ -23,7 +23,7 @@ loop-done-preserved g c =
     let link = g.C.Course.link in
     let cases = g.C.Course.cases in
     let less : l.done < c.args.most = omega (arith, c.loop-done-test.true) in
-    let asked : c.as_slice-in-loop-done.result.now ≡ asks_in link cases (l.done + 1) = c.as_slice-in-loop-done.ensures.value ∙ c.in_ok-run_round.ensures.asks in
+    let asked : c.as_slice.result.now ≡ asks_in link cases (l.done + 1) = c.as_slice.ensures.value ∙ c.in_ok-run_round.ensures.asks in
     let lacks : have_all (flows_after link cases (l.done + 1)) ≡ false =
     sym (none_asked (flows_after link cases (l.done + 1))) ∙ sym (ap (λ (asks : List Ask). none_left asks) asked) ∙ sym c.none_left.ensures
     ∙ c.if-none_left.false in
@@ -33,6 +33,7 @@ loop-done-preserved g c =
       way_on link cases c.args.most l.done less l.invariant.2 lacks,
       omega (arith, less),
       omega (arith, same, l.invariant.4),
+      c.in_ok-run_round.ensures.count,
       c.in_ok-run_round.ensures.known,
     )
 
@@ -43,11 +44,12 @@ loop-done-init g c = (
   way_begins g.C.Course.link g.C.Course.cases c.args.most,
   omega arith,
   c.requires.workers,
+  c.requires.count,
   c.requires.known,
 )
 
-pub returns : goal.returns
-returns g c =
+pub returns-clause-end : goal.returns-clause-end
+returns-clause-end g c =
     let l = c.loop-done in
     record {
       stands = l.invariant.0;

@@ -34,7 +34,7 @@ returns-clause-flows g c =
     let most : c.most_of-most.result ≡ round_limit cases c.args.most =
     c.most_of-most.ensures ∙ ap (λ (list : List Case). round_limit list c.args.most) (c.as_slice.ensures ∙ c.requires.cases) in
     let ended : HasEnded link cases (round_limit cases c.args.most) end.rounds end.link =
-    subst (λ (n : ℕ). HasEnded link cases n end.rounds end.link) most c.in_ok-end.ensures in
+    subst (λ (n : ℕ). HasEnded link cases n end.rounds end.link) most c.in_ok-end.ensures.end in
     c.in_ok-flows.ensures ∙ ap (λ (cores : List CoreState). map (kept_at g.F.RoundFlow.at) cores) (flows-are link cases c.args.most end.rounds end.link ended)
 
 pub returns-clause-counts : goal.returns-clause-counts
@@ -45,5 +45,5 @@ returns-clause-counts g c =
     let most : c.most_of-most.result ≡ round_limit cases c.args.most =
     c.most_of-most.ensures ∙ ap (λ (list : List Case). round_limit list c.args.most) (c.as_slice.ensures ∙ c.requires.cases) in
     let ended : HasEnded link cases (round_limit cases c.args.most) end.rounds end.link =
-    subst (λ (n : ℕ). HasEnded link cases n end.rounds end.link) most c.in_ok-end.ensures in
+    subst (λ (n : ℕ). HasEnded link cases n end.rounds end.link) most c.in_ok-end.ensures.end in
     counts-are link cases c.args.most end.rounds end.link ended c.counts-counts.result c.counts-counts.ensures

@@ -1,5 +1,18 @@
-use Rattle.std.proofs.Common.{◌≡◌, length}
+use Rattle.std.proofs.Common.{◌≡◌, ◌+◌, ◌≤◌, ◌<◌, ℕ, Some, length, slice_get}
+use Rattle.shared_run.specs.Courses.{acks_in_round}
+use Rattle.shared_run.specs.Orders.{order_of}
+use Rattle.shared_run.specs.KnownFlows.{StayKnown, IsDone}
 use Rattle.shared_run.proofs.worker_handle.do_all_here.Given as goal
 
-abbrev pub invariant-loop-order : goal.invariant-loop-order
-invariant-loop-order g l = (l.desk.link ≡ l.fn.desk.link) × (length l.desk.known.items ≡ length l.fn.desk.known.items)
+abbrev pub invariant-loop-left : goal.invariant-loop-left
+invariant-loop-left g l =
+    (length l.orders ≡ length l.fn.orders)
+    × (l.left ≤ length l.fn.orders)
+    × ((worker : ℕ) → worker < l.left → slice_get l.orders worker ≡ Some (order_of (length l.fn.orders) worker l.round (acks_in_round g.C.Course.link g.C.Course.cases l.round)))
+    × ((worker : ℕ) → l.left ≤ worker → worker < length l.fn.orders → IsDone (length l.fn.orders) l.round (acks_in_round g.C.Course.link g.C.Course.cases l.round) l.desk.known worker)
+    × StayKnown (l.round + 1) l.fn.desk.known l.desk.known
+    × (length l.desk.known ≡ length l.fn.desk.known)
+    × (l.desk.link ≡ l.fn.desk.link)
+
+abbrev pub decreases-loop-left : goal.decreases-loop-left
+decreases-loop-left g l = l.left

@@ -43,8 +43,8 @@ returns-then-reading-eq0-2-clause-first c =
     λ f is. sym (trace_of-zero c.args.text.now c.in_ok-reading.ensures.good (omega (arith, c.in_ok-reading.ensures.count, c.if-reading-eq0.false))
     (sym c.in_ok-reading.ensures.fall ∙ c.in_default.is) (omega (arith, c.in_ok-reading.ensures.last, c.if-reading-eq0-2.true))) ∙ is
 
-pub returns-then-reading-clause-first : goal.returns-then-reading-clause-first
-returns-then-reading-clause-first c =
+pub returns-in-Some-refused-clause-first : goal.returns-in-Some-refused-clause-first
+returns-in-Some-refused-clause-first c =
     λ f is.
     absurd (other_than_ok (times_of (text_lines c.args.text.now)) f
     (sym (trace_of-times c.args.text.now c.in_ok-reading.ensures.good (omega (arith, c.in_ok-reading.ensures.count, c.if-reading-eq0.false))
@@ -53,7 +53,7 @@ returns-then-reading-clause-first c =
 pub invariant_of-result : goal.invariant_of-result
 invariant_of-result c =
     let times = c.in_ok-reading.reading.times.items in
-    let same : times ≡ times_of (text_lines c.args.text.now) = c.in_ok-reading.ensures.times c.if-reading.false in
+    let same : times ≡ times_of (text_lines c.args.text.now) = c.in_ok-reading.ensures.times c.in_default-refused.is in
     are_trace (parts_of separator.LineFeed c.args.text.now) times same (sym c.in_ok-reading.ensures.fall ∙ c.in_default.is)
     (omega (arith, ap (λ (xs : List ℕ). length xs) same, c.in_ok-reading.ensures.count, c.if-reading-eq0.false))
     (omega (arith, ap (λ (xs : List ℕ). period xs) same, c.in_ok-reading.ensures.last, c.if-reading-eq0-2.false))
@@ -62,7 +62,7 @@ pub returns-clause-ok : goal.returns-clause-ok
 returns-clause-ok c =
     trace_of-times c.args.text.now c.in_ok-reading.ensures.good (omega (arith, c.in_ok-reading.ensures.count, c.if-reading-eq0.false))
     (sym c.in_ok-reading.ensures.fall ∙ c.in_default.is) (omega (arith, c.in_ok-reading.ensures.last, c.if-reading-eq0-2.false))
-    ∙ ap Ok (sym (c.in_ok-reading.ensures.times c.if-reading.false))
+    ∙ ap Ok (sym (c.in_ok-reading.ensures.times c.in_default-refused.is))
 
 pub returns-clause-first : goal.returns-clause-first
 returns-clause-first c =

@@ -2,6 +2,7 @@ use Rattle.std.proofs.Common.{◌≡◌, ◌≤◌, ◌+◌, ◌-◌, ℕ, List,
 use Rattle.link_model.specs.declared.arrival.Arrival.{Arrival}
 use Rattle.link_model.specs.Standing.{packet_ack}
 use Rattle.link_model.specs.LinkMoves.{flight_count, standing_in, ack_by}
+use Rattle.link_model.specs.Rated.{rated}
 use Rattle.link_model.specs.Horizon.{horizon, ArriveWithin, ArriveInOrder}
 use Rattle.link_model.proofs.HorizonLemmas.{ArriveWithin-more}
 use Rattle.link_model.proofs.LineLemmas.{is_line-later}
@@ -49,5 +50,5 @@ returns-clause-ack c =
     let count = ap (λ xs. flight_count xs old.lost) (first_of old.flight.items first is) in
     let stay : old.in_flight - (first.lost + 1) ≡ flight_count (drop 1 old.flight.items) old.lost = omega (arith, c.requires.kept.count, count) in
     c.arrival_ack-ack.ensures
-    ∙ ap (λ (n : ℕ). packet_ack case first old.past n (old.acked + 1) old.sent) stay
-    ∙ sym (ap (λ (next : Option Arrival). ack_by case (standing_in case.trace old) next) is)
+    ∙ ap (λ (n : ℕ). rated c.args.rates (packet_ack case first old.past n (old.acked + 1) old.sent)) stay
+    ∙ sym (ap (λ (next : Option Arrival). rated c.args.rates (ack_by case (standing_in case.trace old) next)) is)

@@ -1,9 +1,8 @@
-use Rattle.std.proofs.Common.{◌≡◌, ◌∷◌, [], arith, refl, subst, sym}
-use Rattle.ccp_base.specs.declared.ack.Ack.{Ack}
+use Rattle.std.proofs.Common.{◌≡◌, ◌∷◌, [], arith, refl}
 use Rattle.flow_core.specs.Readings.{over_codes}
 use Rattle.flow_core.specs.Cores.{CoreState, with_ack}
 use Rattle.shared_run.specs.RoundLetters.{with_settled_ack}
-use Rattle.shared_run.specs.RoundFlows.{IsAfterHistory, MayHear, Goes}
+use Rattle.shared_run.specs.RoundFlows.{IsAfterHistory}
 use Rattle.shared_run.proofs.CourseLemmas.{none-of}
 use Rattle.shared_run.proofs.RoundFlowLemmas.{hears-first, hears-rest, part-on, part-done}
 use Rattle.shared_run.proofs.flow.SharedFlow.part.Goals as goal
@@ -14,15 +13,14 @@ loop-ack-init g c = (c.requires, (λ core after. (core, after, refl)), omega ari
 pub hear-requires : goal.hear-requires
 hear-requires g c =
     let old = c.loop-ack.self in
-    subst (λ (whole : Ack). MayHear g.F.RoundFlow.at (whole ∷ []) old.flow old.tally) (sym c.unpack.ensures)
-    (hears-first g.F.RoundFlow.at c.loop-ack.left.now c.in-Some.rest.now c.in-Some.ack.now old.flow old.tally c.in-Some.ensures.cases.0
-    c.loop-ack.invariant.0)
+    hears-first g.F.RoundFlow.at c.loop-ack.left.now c.in-Some.rest.now c.in-Some.ack.now old.flow old.tally c.in-Some.ensures.cases.0
+    c.loop-ack.invariant.0
 
 pub settle_all-requires : goal.settle_all-requires
 settle_all-requires g c =
     let old = c.loop-ack.self in
     let first = hears-first g.F.RoundFlow.at c.loop-ack.left.now c.in-Some.rest.now c.in-Some.ack.now old.flow old.tally c.in-Some.ensures.cases.0 c.loop-ack.invariant.0 in
-    record { core = with_ack first.core c.unpack.new.ack; after = c.hear.ensures first.core first.after }
+    record { core = with_ack first.core c.in-Some.ack.now; after = c.hear.ensures first.core first.after }
 
 pub loop-ack-preserved : goal.loop-ack-preserved
 loop-ack-preserved g c =
@@ -34,10 +32,8 @@ loop-ack-preserved g c =
     let rest = c.in-Some.rest.now in
     let split : c.loop-ack.left.now ≡ ack ∷ rest = c.in-Some.ensures.cases.0 in
     let long = c.in-Some.ensures.cases.1 in
-    let heard : Goes at (λ (core : CoreState). with_ack core ack) old.flow old.tally c.hear.new.self.flow c.hear.new.self.tally =
-    subst (λ (whole : Ack). Goes at (λ (core : CoreState). with_ack core whole) old.flow old.tally c.hear.new.self.flow c.hear.new.self.tally) c.unpack.ensures c.hear.ensures in
     let goes : (core : CoreState) → IsAfterHistory at core old.flow old.tally → IsAfterHistory at (with_settled_ack over_codes ack core) new.flow new.tally =
-    λ core after. c.in_ok-settle_all.ensures (with_ack core ack) (heard core after) in (
+    λ core after. c.in_ok-settle_all.ensures (with_ack core ack) (c.hear.ensures core after) in (
       hears-rest at c.loop-ack.left.now rest ack old.flow old.tally new.flow new.tally split c.loop-ack.invariant.0 goes,
       part-on at c.args.acks.now c.loop-ack.left.now rest ack first.flow first.tally old.flow old.tally new.flow new.tally split c.loop-ack.invariant.1 goes,
       omega (arith, long, c.loop-ack.invariant.2),

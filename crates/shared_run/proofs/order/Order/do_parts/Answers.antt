@@ -1,6 +1,6 @@
 use Rattle.std.proofs.Common.{rules, ◌≡◌, ◌%◌, map, length, List, sym, subst}
 use Rattle.std.specs.List.{All}
-use Rattle.shared_run.specs.Orders.{FlowPart}
+use Rattle.shared_run.specs.KnownFlows.{FlowRound}
 use Rattle.shared_run.proofs.OrderLemmas.{maps-as-before}
 use Rattle.shared_run.proofs.order.Order.do_parts.Goals as goal
 
@@ -8,10 +8,10 @@ pub invariant_of-self-inside : goal.invariant_of-self-inside
 invariant_of-self-inside g c =
     let order = c.self.inside in
     let items = order.earlier.items in
-    let own : List FlowPart → Type 0 = λ parts. All (λ (part : FlowPart). part.0 % order.workers ≡ order.worker) parts in
+    let own : List FlowRound → Type 0 = λ parts. All (λ (part : FlowRound). (part.0 % order.workers ≡ order.worker) × (part.1 ≡ order.round)) parts in
     let is : order.earlier.len ≡ length items = search rules in
-    let same : map {B = FlowPart} (λ part. (part.acks.number, part.acks.acks)) c.do_all.new.parts
-    ≡ map {B = FlowPart} (λ part. (part.acks.number, part.acks.acks)) items = search rules in (
-      subst own (sym (maps-as-before order.earlier.len items c.do_all.new.parts (λ part. (part.acks.number, part.acks.acks)) is same)) order.own,
-      (subst own (sym c.do_last.ensures) order.own_last, tt),
+    let same : map {B = FlowRound} (λ part. (part.acks.number, part.acks.round)) c.do_all.new.parts
+    ≡ map {B = FlowRound} (λ part. (part.acks.number, part.acks.round)) items = search rules in (
+      subst own (sym (maps-as-before order.earlier.len items c.do_all.new.parts (λ part. (part.acks.number, part.acks.round)) is same)) order.own,
+      (subst own (sym c.do_last.ensures.rounds) order.own_last, tt),
     )

@@ -1,7 +1,9 @@
+use Rattle.std.proofs.Common.{rules, IsOk}
 use Rattle.shared_run.proofs.KeptLemmas.{kept-asks}
 use Rattle.shared_run.proofs.run_flow.RunFlow.known.Goals as goal
 
 pub new-requires : goal.new-requires
 new-requires g c =
     let run = c.args.self.now in
-    kept-asks g.F.RoundFlow.at g.C.Course.link g.C.Course.cases run.round run.number run.flow.flow run.flow.tally c.ask.result (run.stands c.if-self.false) c.ask.ensures
+    let well : IsOk run.heard = search rules in
+    kept-asks g.F.RoundFlow.at g.C.Course.link g.C.Course.cases run.round run.number run.flow.flow run.flow.tally c.ask.result (run.stands well) c.ask.ensures

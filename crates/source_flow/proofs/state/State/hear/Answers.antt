@@ -1,11 +1,10 @@
-use Rattle.std.proofs.Common.{◌≡◌, ℕ, ◌+◌, nat_lt, [], ◌∷◌, ◌++◌, ap, sym, ◌∙◌, subst}
+use Rattle.std.proofs.Common.{◌≡◌, ℕ, ◌+◌, nat_lt, ap, sym, ◌∙◌, subst}
 use Rattle.ccp_base.specs.declared.ack.Ack.{Ack}
 use Rattle.link_model.specs.Link.{ack_after}
-use Rattle.link_model.specs.Standing.{Stands}
 use Rattle.portus_core.specs.Epoch.{by_source, heard, stops}
 use Rattle.flow_core.specs.World.{after_ack}
 use Rattle.source_flow.specs.declared.state.Present.{Present}
-use Rattle.source_flow.specs.SourceStates.{flow_over_sources, outcome_met, KeptFlow, IsAt}
+use Rattle.source_flow.specs.SourceStates.{flow_over_sources, outcome_met, IsAt}
 use Rattle.source_flow.specs.SourceSteps.{RecordsOutcome}
 use Rattle.source_flow.proofs.HeardLemmas.{at-heard}
 use Rattle.source_flow.proofs.state.State.hear.Goals as goal
@@ -19,16 +18,14 @@ returns-clause-at c = λ w at.
     let outcome = outcome_met c.in_ok-mean.mean in
     let env = c.run.new.self.env in
     let put = c.record_outcome.new.self in
-    let room = nat_lt c.len.result source.case.now.slots in
     let is_room = ap (λ (n : ℕ). nat_lt n source.case.now.slots) (c.len.ensures ∙ s.waiting.ok.0) in
     let met =
-    (λ i. heard (by_source (sym c.program-program.ensures i)) s.present.is_stopped s.present.env ack room) ∙ c.in_ok-mean.ensures.met in
+    (λ i. heard (by_source (sym c.program-program.ensures i)) s.present.is_stopped s.present.env ack (sym is_room i)) ∙ c.in_ok-mean.ensures.met in
     let present : c.run.new.self ≡ record s.present { env = env; is_stopped = stops outcome } =
     c.in_ok-mean.ensures.frame ∙ (λ i. record s.present { env = env; is_stopped = c.in_ok-mean.ensures.stopped i }) in
     let down =
     subst (λ (p : Present). RecordsOutcome source.case.now.flow (record s { link = link; present = p }) put ack outcome) present c.in_ok-record_outcome.ensures in
-    let stands = subst (λ (n : ℕ). Stands link (w.windows ++ n ∷ [])) (ap (λ (k : KeptFlow). k.env.cwnd) at.kept) (c.next-ack.ensures.stands w.windows at.stands) in
     let is_ack =
-    c.next-ack.ensures.ack w.windows at.stands ∙ (λ i. ack_after (c.requires.sound.link i) w.windows (at.kept i).env.cwnd) in
+    c.next-ack.ensures.ack w.windows at.stands ∙ (λ i. ack_after (c.requires.sound.link i) w.windows (at.kept i).track.env.cwnd) in
     subst (λ (a : Ack). IsAt (flow_over_sources source) (record put { acks = put.acks + 1; time = ack.now }) (after_ack (flow_over_sources source) a w)) is_ack
-    (at-heard source s w at link room ack outcome env put is_room met down stands)
+    (at-heard source s link ack outcome env put met down w at (c.next-ack.ensures.stands w.windows at.stands))

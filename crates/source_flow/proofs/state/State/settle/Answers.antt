@@ -8,11 +8,10 @@ apply_reply-requires-clause-good c =
 
 pub returns-clause-sound : goal.returns-clause-sound
 returns-clause-sound c =
-    let s = c.args.self.now in
-    sound-settled c.args.source.now s c.requires.sound c.args.issued.now c.reply-reply.new.self c.reply-reply.result c.record_answer.new.self
-    c.requires.out c.reply-reply.ensures.turn c.in_ok-record_answer.ensures.tickets c.in_ok-record_answer.ensures.frame s.agent c.apply_reply.new.self c.in_ok-apply_reply.ensures
+    sound-settled c.args.source.now c.args.self.now c.args.issued.now c.reply-reply.new.self c.reply-reply.result c.record_answer.new.self c.apply_reply.new.self
+    c.requires.out c.reply-reply.ensures.turn c.in_ok-record_answer.ensures.tickets c.in_ok-record_answer.ensures.frame c.in_ok-apply_reply.ensures c.requires.sound
 
 pub returns-clause-at : goal.returns-clause-at
-returns-clause-at c = λ w at.
-    at-settled c.args.source.now c.args.self.now w at c.args.issued.now c.reply-reply.new.self c.reply-reply.result c.record_answer.new.self
-    c.requires.out c.reply-reply.ensures.turn c.in_ok-record_answer.ensures.tickets c.in_ok-record_answer.ensures.frame c.apply_reply.new.self c.in_ok-apply_reply.ensures
+returns-clause-at c =
+    at-settled c.args.source.now c.args.self.now c.args.issued.now c.reply-reply.new.self c.reply-reply.result c.record_answer.new.self c.apply_reply.new.self
+    c.requires.out c.reply-reply.ensures.turn c.in_ok-record_answer.ensures.tickets c.in_ok-record_answer.ensures.frame c.in_ok-apply_reply.ensures
