@@ -312,6 +312,23 @@ def test_the_file_keeps_every_option(tmp_path):
     assert {**vars(read), "losses": None} == {**vars(given), "losses": None}
 
 
+def wait_for_processes(begun_by):
+    """Waits until a process has begun others, for half a second at most: on one processor it begins none."""
+    end = time.monotonic() + 0.5
+    while time.monotonic() < end:
+        if any(parent_of(folder) == begun_by for folder in Path("/proc").glob("[0-9]*")):
+            return
+        time.sleep(0.005)
+
+
+def parent_of(folder):
+    """The number of the process that began the process of a folder of /proc, or None where that has ended."""
+    try:
+        return int((folder / "stat").read_text(errors="replace").rpartition(")")[2].split()[1])
+    except OSError:
+        return None
+
+
 @pytest.mark.parametrize("number, is_for_all, status", [(signal.SIGINT, True, 130), (signal.SIGTERM, False, 143)])
 def test_an_interrupt_ends_a_comparison(program, tmp_path, number, is_for_all, status):
     """Silently and at once, also while plots are drawn in processes of their own; the folder can be used again."""
@@ -334,7 +351,7 @@ def test_an_interrupt_ends_a_comparison(program, tmp_path, number, is_for_all, s
             assert line, shown
             shown += line
         if step == "plots":
-            time.sleep(0.5)
+            wait_for_processes(running.pid)
         (os.killpg if is_for_all else os.kill)(running.pid, number)
         output, errors = running.communicate(timeout=30)
         assert running.returncode == status and (output, errors) == ("", ""), (running.returncode, errors)

@@ -9,7 +9,6 @@ import json
 import math
 import re
 import shutil
-import subprocess
 from dataclasses import dataclass
 from datetime import datetime, timezone
 from typing import Any, Iterable, Iterator, List, Sequence, Tuple
@@ -17,6 +16,7 @@ from typing import Any, Iterable, Iterator, List, Sequence, Tuple
 from .arguments import warn
 from .errors import CcpError
 from .files import PathLike, name_of
+from .interrupts import run_process
 from .trace_files import is_capture, read_plain, read_text, recognised, text_of, what_is, without_mark
 
 # the most chances of a trace that is made here: some 400 times what a scenario holds
@@ -364,7 +364,7 @@ def captured(data: bytes, place: str, display_filter: str | None) -> str:
         )
     words = [command, "-n", "-r", "-", "-T", "fields", "-E", "separator=,", "-e", "frame.time_epoch", "-e", "frame.len"]
     words += ["-Y", display_filter] if display_filter else []
-    ran = subprocess.run(words, input=data, stdout=subprocess.PIPE, stderr=subprocess.PIPE)
+    ran = run_process(words, data)
     # tshark warns about running as root on a line of its own
     lines = [
         line for line in ran.stderr.decode("utf-8", "replace").splitlines() if line.strip() and "as user" not in line

@@ -2,9 +2,10 @@
 from __future__ import annotations
 
 import signal
+import subprocess
 import threading
 from contextlib import contextmanager
-from typing import Iterator
+from typing import Iterator, List, Optional, Sequence
 
 INTERRUPTS = (signal.SIGINT, signal.SIGTERM, signal.SIGHUP)
 
@@ -45,3 +46,40 @@ def without_interrupts() -> Iterator[None]:
         yield
     finally:
         signal.pthread_sigmask(signal.SIG_SETMASK, before)
+
+
+@contextmanager
+def deferred_interrupts() -> Iterator[None]:
+    """Has an interrupt of the main thread wait until the end of what is inside, and raises it there. A process that is
+    begun inside takes interrupts as ever."""
+    is_main = threading.current_thread() is threading.main_thread()
+    handlers = {number: signal.getsignal(number) for number in INTERRUPTS if is_main}
+    caught = {number: handler for number, handler in handlers.items() if callable(handler)}
+    came: List[int] = []
+    for number in caught:
+        signal.signal(number, lambda number, _: came.append(number))
+    try:
+        yield
+    finally:
+        for number, handler in caught.items():
+            signal.signal(number, handler)
+        for one in came:
+            signal.raise_signal(one)
+
+
+def run_process(
+    words: Sequence[str], given: bytes = b"", timeout: Optional[float] = None
+) -> subprocess.CompletedProcess[bytes]:
+    """What `subprocess.run` gives, with both outputs captured. Whatever ends it ends the process too, also an interrupt
+    at the moment when the process begins, which would leave it to itself."""
+    running = None
+    try:
+        with deferred_interrupts():
+            running = subprocess.Popen(words, stdin=subprocess.PIPE, stdout=subprocess.PIPE, stderr=subprocess.PIPE)
+        output, errors = running.communicate(given, timeout)
+    except BaseException:
+        if running is not None:
+            with deferred_interrupts(), running:
+                running.kill()
+        raise
+    return subprocess.CompletedProcess(words, running.returncode, output, errors)

@@ -18,6 +18,7 @@ from typing import Any, Dict, List, Mapping, Union
 
 from . import texts
 from .errors import CcpError, Failed, NoProgram
+from .interrupts import run_process
 from .scenario_files import scenario_text
 
 Given = Union[str, bytes, Mapping[str, Any]]
@@ -106,9 +107,7 @@ def run(
     check=False. A run past `timeout` seconds is ended, and a CcpError."""
     words = [str(find_program(program)), mode, *option_words(options)]
     try:
-        ran = subprocess.run(
-            words, input=input_bytes(given), stdout=subprocess.PIPE, stderr=subprocess.PIPE, timeout=timeout
-        )
+        ran = run_process(words, input_bytes(given), timeout)
     except OSError as error:
         raise NoProgram("%s: %s" % (words[0], error.strerror)) from None
     except subprocess.TimeoutExpired:

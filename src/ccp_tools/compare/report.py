@@ -20,7 +20,7 @@ import pandas as pd
 from matplotlib.figure import Figure
 
 from .. import metrics, plots, program, slow_start
-from ..interrupts import without_interrupts
+from ..interrupts import deferred_interrupts, without_interrupts
 from ..metrics import SHOWN, Window, counted
 from ..plots import Look
 from ..scenario_files import Scenario
@@ -121,7 +121,8 @@ def in_processes(work: Callable[[int], Any], count: int) -> List[Any]:
         return pool.map(forked, range(count), chunksize=1)
     finally:
         if pool is not None:
-            pool.terminate()
+            with deferred_interrupts():
+                pool.terminate()
 
 
 def begin_forked() -> None:
