@@ -44,6 +44,12 @@ class Ran(NamedTuple):
     status: int
 
 
+def shown(page: str, command: str) -> str:
+    """What a page of docs/ shows of a command's output. tools/check-docs compares it with the program's."""
+    text = (REPOSITORY / "docs" / page).read_text(encoding="utf-8")
+    return text.split("\n```\n$ %s\n" % command, 1)[1].split("```\n", 1)[0]
+
+
 def ran(words: Sequence[object], given: str | bytes | None = None, **more: Any) -> Ran:
     """Runs a command. Its input is empty where none is given; `env` adds to the environment."""
     env = {**os.environ, "PYTHONPATH": str(REPOSITORY / "src"), "PYTHONDONTWRITEBYTECODE": "1", **more.pop("env", {})}

@@ -1,9 +1,12 @@
-"""Tests of tools/check-docs: what of a page it runs, and what it leaves out."""
+"""Tests of tools/check-docs: what of a page it runs and writes, what it leaves out, and how it counts the recipes."""
 import contextlib
 import importlib.machinery
 import importlib.util
 import io
+import re
+import sys
 
+import pytest
 from support import REPOSITORY
 
 
@@ -11,6 +14,8 @@ def check_docs():
     """tools/check-docs as a module."""
     loader = importlib.machinery.SourceFileLoader("script_check_docs", str(REPOSITORY / "tools" / "check-docs"))
     module = importlib.util.module_from_spec(importlib.util.spec_from_loader(loader.name, loader))
+    # its dataclasses look there for the names of their types
+    sys.modules[loader.name] = module
     loader.exec_module(module)
     return module
 
@@ -52,4 +57,118 @@ def test_the_tables_are_those_of_the_definitions():
     script = check_docs()
     findings = script.Findings()
     script.check_tables(findings)
-    assert findings.wrong == 0 and findings.checked["modes"] == 17
+    assert findings.wrong == 0 and findings.checked["modes"] == len(script.MODES)
+
+
+# ---- what --write writes
+
+
+def test_documents_are_written_again_from_the_tables():
+    """What a document lacks of modes, options and columns comes back, and nothing else changes."""
+    script = check_docs()
+    texts = {path: (REPOSITORY / path).read_text(encoding="utf-8") for path in script.WITH_TABLES}
+    lacks = [
+        ("docs/ccp.1", r"\.TP\n\.B soak\n.*\n", ""),
+        ("docs/ccp.1", r"\.BR timeline ,\n", ""),
+        ("docs/formats.md", "`live`, `rollout` [|]", "`live` |"),
+        ("docs/formats.md", " <tail>", ""),
+        ("docs/formats.md", " lost=<n>", ""),
+    ]
+    for path, found, put in lacks:
+        changed, count = re.subn(found, put, texts[path], count=1)
+        assert count == 1 and script.WITH_TABLES[path](changed) == texts[path], (path, found)
+
+
+def test_a_row_of_a_mode_is_written_into_readme():
+    """A row that differs from the tables is made anew, with an example and without links; all others stay."""
+    script = check_docs()
+    text = (REPOSITORY / "README.md").read_text(encoding="utf-8")
+    rows = [row for row, *_ in script.rows_of_readme(text)]
+    mode = script.MODES[script.rows_of_readme(text)[-1][1]]
+    new = "| `%s` | %s | %s | `%s` |\n" % (mode.name, mode.reads, mode.does, mode.example)
+    for changed in (text.replace(rows[-1], ""), text.replace(rows[-1], rows[-1].replace(mode.reads, "a word"))):
+        made = [row for row, *_ in script.rows_of_readme(script.readme_with_tables(changed))]
+        assert changed != text and made == [*rows[:-1], new]
+
+
+def test_outputs_are_written_into_a_document(tmp_path):
+    script = check_docs()
+    script.TOP = str(tmp_path)
+    page = "text\n\n```\n$ echo one; echo two\nold\n$ cat <<'END'\nthree\nEND\n```\n\n```\n$ echo four\nfour\n```\n"
+    (tmp_path / "page.md").write_text(page, encoding="utf-8")
+    with contextlib.redirect_stdout(io.StringIO()) as printed:
+        script.write_outputs("/bin/true", "page.md", script.Findings())
+    made = page.replace("old", "one\ntwo").replace("END\n```", "END\nthree\n```")
+    assert (tmp_path / "page.md").read_text(encoding="utf-8") == made and printed.getvalue() == "wrote page.md\n"
+    with contextlib.redirect_stdout(io.StringIO()) as printed:
+        script.write_outputs("/bin/true", "page.md", script.Findings())
+    assert printed.getvalue() == "", "and once more"
+
+
+# ---- the recipes
+
+RECIPE = """**A change** (for example one): 3 files. It has a reason.
+
+| File | What changes | Needed for |
+|---|---|---|
+| `ccp_base/specs/Limits.antt` | a limit | |
+| `ccp_base/src/ack.rt` | a field | |
+| `x_agent/proofs/x/X/reply/Answers.antt` | new | proof |
+| `src/ccp_tools/tables.py`, `docs/*.md` | copies | script |
+| `docs/flow.md`, `rows/x.jsonl` | words | special |
+
+Special cases: 2 files, if there is a reason.
+
+**Another change**, without a table.
+
+| `docs/none.md` | no row of a recipe | |
+"""
+
+
+def found_in(script, text):
+    """What check-docs finds wrong in the recipes of a text, without the page's name."""
+    findings, printed = script.Findings(), io.StringIO()
+    with contextlib.redirect_stdout(printed):
+        script.check_recipes(text.split("\n"), findings)
+    assert findings.wrong == len(printed.getvalue().splitlines())
+    return printed.getvalue().replace(script.CHANGING, "page")
+
+
+def test_the_files_of_a_recipe_are_counted():
+    script = check_docs()
+    script.MOST_FILES = {"A change": 3}
+    assert found_in(script, RECIPE) == ""
+    (recipe,) = script.recipes(RECIPE.split("\n"))
+    assert [recipe.count(need) for need in script.NEEDS] == [2, 1, 2, 2]
+
+
+@pytest.mark.parametrize(
+    "old, new, line",
+    [
+        (": 3 files", ": 4 files", "page:1: A change: 4 files are stated, and its table has 3"),
+        ("| proof |", "| script |", "page:1: A change: 3 files are stated, and its table has 2"),
+        ("cases: 2", "cases: 3", "page:1: A change: 3 files for special cases are stated, and its table has 2"),
+        ("`ccp_base/src/ack.rt`", "`ccp_base/src/no.rt`", "page:6: there is no ccp_base/src/no.rt"),
+        ("`docs/flow.md`", "`docs/no.md`", "page:9: there is no docs/no.md"),
+        ("| proof |", "| proofs |", "page:7: a file is needed for proofs: nothing, proof, script, special"),
+        ("ack.rt`", "ack.rt`, `ccp_base/src/lib.rt`", "page:6: a row that counts is of one file, and this one of 2"),
+        ("**A change**", "**A new change**", "page: there is no recipe: A change"),
+    ],
+)
+def test_a_recipe_that_differs_from_its_table(old, new, line):
+    script = check_docs()
+    script.MOST_FILES = {"A change": 3}
+    assert line in found_in(script, RECIPE.replace(old, new)).split("\n")
+
+
+def test_a_recipe_has_a_limit():
+    script = check_docs()
+    script.MOST_FILES = {"A change": 2}
+    assert found_in(script, RECIPE) == "page:1: A change: 3 files are more than 2\n"
+
+
+def test_the_recipes_of_the_page():
+    script = check_docs()
+    text = (REPOSITORY / script.CHANGING).read_text(encoding="utf-8")
+    assert found_in(script, text) == ""
+    assert {recipe.title for recipe in script.recipes(text.split("\n"))} == set(script.MOST_FILES)

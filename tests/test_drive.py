@@ -12,7 +12,7 @@ from pathlib import Path
 from typing import Any, Dict, List
 
 import pytest
-from support import REPOSITORY, Ran, ran, require
+from support import REPOSITORY, Ran, ran, require, shown
 
 require("pandas")
 from ccp_tools import drive  # noqa: E402
@@ -28,6 +28,11 @@ HEAD = EXAMPLE["scenario"].encode() + b"\n---\n"
 SOON = 30.0
 # faults at the fourth acknowledgement
 FAULTY = "(def (Report (volatile n 0)) (left 3))\n(when true (:= left (- left 1)) (report))"
+
+
+def text_of(mode: str) -> str:
+    """What a mode prints of the example's run."""
+    return shown("formats.md", "./ccp %s examples/driven.drive" % mode)
 
 
 def session(driver: Path, scenario: Any = EXAMPLE["scenario"].encode(), **more: Any) -> Session:
@@ -63,7 +68,7 @@ def test_the_example(driver: Path, tmp_path: Path) -> None:
         kept = run.recording
     assert record.read_bytes() == kept
     for mode in ("drive-table", "drive-timeline", "drive-acks"):
-        assert ran([driver, mode], kept).output == "".join(line + "\n" for line in EXAMPLE[mode])
+        assert ran([driver, mode], kept).output == text_of(mode)
 
 
 def test_a_run_as_a_loop(driver: Path) -> None:
@@ -172,7 +177,7 @@ def test_answers_before_they_are_asked_for_are_kept(driver: Path) -> None:
         run.send(wire.change(0, 3, [(4, 4, 6000), (3, 0, 2)]) + wire.update(0) + wire.update(0, [(4, 4, 9000)]))
         assert [type(run.receive()) for _ in range(2)] == [Report, Report]
         table = programs.run("drive-table", run.recording, program=driver).output
-    assert table.split("\n")[1] == EXAMPLE["drive-table"][1]
+    assert table.split("\n")[1] == text_of("drive-table").split("\n")[1]
 
 
 def test_half_a_frame(driver: Path) -> None:

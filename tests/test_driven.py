@@ -9,11 +9,11 @@ import subprocess
 import sys
 from pathlib import Path
 from random import Random
-from typing import Any, Dict, Iterator, List, Sequence, Tuple
+from typing import Any, Dict, Iterator, List, Tuple
 
 import pytest
 from rows_of import runs_of
-from support import EXAMPLES, Ran, ran, stand_in
+from support import EXAMPLES, Ran, ran, shown, stand_in
 
 from ccp_tools import program as programs
 from ccp_tools.reference import driven, scenes, wire
@@ -40,11 +40,6 @@ def bytes_of(text: str) -> bytes:
     return text.encode("utf-8", "surrogateescape")
 
 
-def text_of(lines: Sequence[str]) -> str:
-    """The text of lines."""
-    return "".join(line + "\n" for line in lines)
-
-
 # ---- the worked example
 
 
@@ -56,7 +51,9 @@ def test_frames_of_the_example(driver: Path) -> None:
 @pytest.mark.parametrize("mode", TEXTS)
 def test_texts_of_the_example(driver: Path, mode: str) -> None:
     for more in (b"", SENT[0]):
-        assert driven_by(driver, mode, WHOLE + more) == Ran(text_of(EXAMPLE[mode]), "", 0)
+        assert driven_by(driver, mode, WHOLE + more) == Ran(
+            shown("formats.md", "./ccp %s examples/driven.drive" % mode), "", 0
+        )
 
 
 def test_the_end_of_the_frames(driver: Path) -> None:

@@ -78,10 +78,8 @@ def without_link(body: bytes) -> Tuple[bytes, bool]:
 def read_acks(source: Source) -> pd.DataFrame:
     """The acknowledgements of a text of `acks` in one frame.
 
-    Columns: `flow` (the number from 0), `case` and `agent` (texts as categories), `bytes_acked`, `bytes_misordered`,
-    `ecn_bytes`, `bytes_in_flight`, `bytes_pending` (bytes), `packets_acked`, `packets_misordered`, `ecn_packets`,
-    `lost_pkts_sample`, `packets_in_flight` (packets), `now`, `rtt_sample_us` (microseconds), `rate_incoming`,
-    `rate_outgoing` (bytes a second), each uint64, and `was_timeout` (bool). Source: `acks` or `shared-acks`."""
+    Columns: `flow` (the number from 0), `case` and `agent` (texts as categories), and the primitives, by the names and
+    in the units of docs/language.md, each uint64, and `was_timeout` (bool). Source: `acks` or `shared-acks`."""
     return joined(list(acks_in(source)))
 
 

@@ -2,8 +2,8 @@
 
 A sender is an agent, as `reno`, or an agent with programs of your own:
 
-    AGENT                       reno or cubic, with the built-in programs
-    linux-reno, linux-cubic     these agents with programs that come with ccp, like those of Linux
+    AGENT                       an agent, as reno or cubic, with its built-in programs
+    linux-reno, linux-cubic     these two with programs that come with ccp, like those of Linux
     LABEL=PROGRAM               the program in slow start and in congestion avoidance, with Reno as the agent
     [LABEL=]AGENT:PROGRAM       the same with this agent
     [LABEL=]AGENT:SLOW:AVOID    a program for each; the built-in one where a program is left out, as in reno::AVOID

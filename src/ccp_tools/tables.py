@@ -1,4 +1,4 @@
-"""The modes, options, columns, primitives, agents and limits of `ccp`, and the sub-commands of the package.
+"""The modes, options, columns, operators, primitives, agents and limits of `ccp`, and the sub-commands of the package.
 
 Written by tools/write-tables from the definitions of the crates and tools/modes.json; don't edit it."""
 from dataclasses import dataclass
@@ -341,6 +341,19 @@ PACKAGES: Dict[str, str] = {'pandas': 'python3-pandas',
  'scipy': 'python3-scipy',
  'matplotlib': 'python3-matplotlib',
  'jinja2': 'python3-jinja2'}
+
+# the operators in the order of their numbers: the word of each, and the mark that a program may write for it
+MARKS: Dict[str, str] = {'add': '+',
+ 'sub': '-',
+ 'mul': '*',
+ 'div': '/',
+ 'max': 'max',
+ 'min': 'min',
+ 'gt': '>',
+ 'lt': '<',
+ 'eq': '==',
+ 'and': '&&',
+ 'or': '||'}
 
 # the primitives in the order of their numbers, as a program writes them
 PRIMITIVE_WORDS: List[str] = ['Ack.bytes_acked', 'Ack.packets_acked', 'Ack.bytes_misordered', 'Ack.packets_misordered', 'Ack.ecn_bytes',

@@ -1,6 +1,6 @@
 //! The work of an agent worker in a live run, from the first flow number that it receives to the last.
 ghost use Rattle.std.specs.Prelude.{◌≡◌, length};
-ghost use Rattle.agent_loop.specs.Crews.{post};
+ghost use Rattle.agent_loop.specs.Crews.{agent_duty};
 
 use crate::nudged_desk::NudgedDesk;
 use ccp_base::Gate;
@@ -20,7 +20,7 @@ pub(crate) fn run_agent_worker<R: Wait, G: Gate>(
     nudges: &Receiver<u32, Global>,
     gate: &G,
 ) -> Attended
-    ensures { result ≡ post (length table.now) worker }
+    ensures { result ≡ agent_duty (length table.now) worker }
 {
     let mut desk = NudgedDesk {
         rt,

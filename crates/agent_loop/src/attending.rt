@@ -1,7 +1,7 @@
 //! The work of agent workers, begun and ended.
 
 ghost use Rattle.std.specs.Prelude.{◌≡◌, map, IfOk, length};
-ghost use Rattle.agent_loop.specs.Crews.{post_of, post, posts};
+ghost use Rattle.agent_loop.specs.Crews.{agent_duty_of, agent_duty, agent_duties};
 
 use crate::agent::run_agent_worker;
 use ccp_base::{Gate, NoMemory};
@@ -11,13 +11,13 @@ use flow_table::{FlowTable, WorkerCounts};
 use std::alloc::Global;
 use std::sync::Wait;
 use std::thread::{PromisedHandle, Scope, Threads};
-use worker_desk::{Attended, Post};
+use worker_desk::{AgentShare, Attended, Duty};
 
 /// The work of an agent worker, which goes on in a thread or is left to the end.
 #[derive(Drop)]
 pub(crate) enum Attending {
     /// In a thread.
-    Thread(PromisedHandle<Attended, Post>),
+    Thread(PromisedHandle<Attended, Duty<AgentShare>>),
     /// Left to the end, with the worker's number.
     Left(u32),
 }
@@ -32,8 +32,8 @@ pub(crate) fn begin_all<'s, 'e, R: Threads + Wait + Sync, G: Gate + Sync>(
     receiver: &Receiver<u32, Global>,
     gate: &'e G,
 ) -> Result<Vec<Attending>, NoMemory>
-    ensures { IfOk result (λ all. map (post_of (length table.now)) all.items
-        ≡ posts workers.datapaths.count (length table.now) workers.agents.count) }
+    ensures { IfOk result (λ all. map (agent_duty_of (length table.now)) all.items
+        ≡ agent_duties workers.datapaths.count (length table.now) workers.agents.count) }
 {
     let mut attendings = Vec::new(alloc);
     for agent in 0..workers.agents.count() {
@@ -53,17 +53,19 @@ fn begin<'s, 'e, R: Threads + Wait + Sync, G: Gate + Sync>(
     receiver: &Receiver<u32, Global>,
     gate: &'e G,
 ) -> Result<Attending, NoMemory>
-    ensures { IfOk result (λ attending. post_of (length table.now) attending ≡ post (length table.now) worker) }
+    ensures { IfOk result (λ attending.
+        agent_duty_of (length table.now) attending ≡ agent_duty (length table.now) worker) }
 {
     let nudges = receiver.clone()?;
-    let promise = Post {
+    let promise = Duty {
         worker,
         flows: table.flows(),
+        share: AgentShare,
     };
     let started = scope.spawn_with(
         promise,
         move || -> Attended
-            ensures { result ≡ post (length table.entry.now) worker }
+            ensures { result ≡ agent_duty (length table.entry.now) worker }
         { run_agent_worker(rt, alloc, table, worker, &nudges, gate) },
     );
     match started {
@@ -81,7 +83,7 @@ fn end<R: Threads + Wait, G: Gate>(
     receiver: &Receiver<u32, Global>,
     gate: &G,
 ) -> Attended
-    ensures { result ≡ post_of (length table.now) attending }
+    ensures { result ≡ agent_duty_of (length table.now) attending }
 {
     match attending {
         Attending::Thread(handle) => handle.join(rt),
@@ -98,7 +100,7 @@ pub(crate) fn end_all<R: Threads + Wait, G: Gate>(
     receiver: &Receiver<u32, Global>,
     gate: &G,
 ) -> Result<Vec<Attended>, NoMemory>
-    ensures { IfOk result (λ all. all.items ≡ map (post_of (length table.now)) attendings.items) }
+    ensures { IfOk result (λ all. all.items ≡ map (agent_duty_of (length table.now)) attendings.items) }
 {
     let mut left = attendings;
     let mut all = Vec::new(alloc);

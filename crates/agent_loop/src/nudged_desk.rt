@@ -11,7 +11,7 @@ use flow_core::Cell;
 use flow_table::FlowTable;
 use std::alloc::Global;
 use std::sync::{MutexGuard, Wait};
-use worker_desk::AgentDesk;
+use worker_desk::{AgentDesk, LockDesk};
 
 /// The desk of an agent worker of a live run.
 #[derive(Drop)]
@@ -26,10 +26,9 @@ pub(crate) struct NudgedDesk<'a, R: Wait, G: Gate> {
     pub(crate) left: u64,
 }
 
-impl<'a, R: Wait, G: Gate> AgentDesk for NudgedDesk<'a, R, G> {
+impl<'a, R: Wait, G: Gate> LockDesk for NudgedDesk<'a, R, G> {
     ghost use Rattle.std.specs.Prelude.{◌≡◌, Some, None, length};
     ghost use Rattle.flow_table.specs.HeldFlows.{number_held, OfHeld};
-    ghost use Rattle.agent_loop.specs.Answering.{HasTaken, HasSettled};
 
     type Guard = MutexGuard<'a, Cell>;
 
@@ -41,28 +40,12 @@ impl<'a, R: Wait, G: Gate> AgentDesk for NudgedDesk<'a, R, G> {
 
     ghost coming = { λ d. d.left };
 
-    ghost HasTaken = { λ old new taken. OfHeld (λ before after. HasTaken before after taken) old.held new.held };
-
-    ghost HasSettled = { λ old new answer. OfHeld (λ before after. HasSettled before after answer) old.held new.held };
-
     ghost HasKept = { λ old new. OfHeld (λ before after. after ≡ before) old.held new.held };
 
     ghost HasReleased = { λ old guard. old.held ≡ Some guard };
 
     fn flow_count(&self) -> u32 {
         self.table.flows()
-    }
-
-    fn receive(&mut self) -> Option<u32> {
-        if self.left == 0 {
-            for _ in self.rt.forever() {}
-            unreachable!()
-        }
-        self.left -= 1;
-        match self.nudges.recv(self.rt) {
-            Ok(flow) => Some(flow),
-            Err(_) => None,
-        }
     }
 
     fn lock(&mut self, flow: u32) {
@@ -74,6 +57,31 @@ impl<'a, R: Wait, G: Gate> AgentDesk for NudgedDesk<'a, R, G> {
             unreachable!()
         };
         guard
+    }
+
+    fn pass(&mut self, worker: u32, point: Point, flow: u32) {
+        self.gate.pass(worker, point, flow);
+    }
+}
+
+impl<'a, R: Wait, G: Gate> AgentDesk for NudgedDesk<'a, R, G> {
+    ghost use Rattle.flow_table.specs.HeldFlows.{OfHeld};
+    ghost use Rattle.agent_loop.specs.Answering.{HasTaken, HasSettled};
+
+    ghost HasTaken = { λ old new taken. OfHeld (λ before after. HasTaken before after taken) old.held new.held };
+
+    ghost HasSettled = { λ old new answer. OfHeld (λ before after. HasSettled before after answer) old.held new.held };
+
+    fn receive(&mut self) -> Option<u32> {
+        if self.left == 0 {
+            for _ in self.rt.forever() {}
+            unreachable!()
+        }
+        self.left -= 1;
+        match self.nudges.recv(self.rt) {
+            Ok(flow) => Some(flow),
+            Err(_) => None,
+        }
     }
 
     fn take(&mut self, _flow: u32) -> Option<Ticket> {
@@ -91,10 +99,6 @@ impl<'a, R: Wait, G: Gate> AgentDesk for NudgedDesk<'a, R, G> {
         };
         settle_at(&mut guard, answer);
         self.held = Some(guard);
-    }
-
-    fn pass(&mut self, worker: u32, point: Point, flow: u32) {
-        self.gate.pass(worker, point, flow);
     }
 }
 

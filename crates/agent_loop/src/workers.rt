@@ -7,11 +7,12 @@ use crate::crew::Crew;
 use crate::nudge_sender::NudgeSender;
 use ccp_base::{Gate, NoMemory};
 use flow_core::Cell;
-use flow_table::{FlowTable, WorkerCounts, begin_serving, end_serving};
+use flow_table::{FlowTable, WorkerCounts, begin_serving};
 use std::alloc::Global;
 use std::sync::Wait;
 use std::thread;
 use std::thread::Threads;
+use worker_desk::end_all;
 
 /// The workers over the flows of a table, until the work of each of them is done. That of a datapath worker for which
 /// no thread can be started is done here at once, and that of such an agent worker once the datapath workers are done.
@@ -45,7 +46,7 @@ pub(crate) fn work<R: Threads + Wait + Sync, G: Gate + Sync>(
                 &nudges,
                 gate,
             )?;
-            let served = end_serving(rt, alloc, servings)?;
+            let served = end_all(rt, alloc, servings)?;
             // Agent workers end when the last sender is gone.
             drop(nudges);
             let attended = attending::end_all(rt, alloc, table, attendings, &receiver, gate)?;

@@ -5,3 +5,4 @@ pub mod BoundLemmas
 pub mod SumLemmas
 pub mod SourceReadings
 pub mod ReportsMadeLemmas
+pub mod GivenFlowLemmas

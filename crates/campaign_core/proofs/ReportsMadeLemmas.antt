@@ -6,14 +6,15 @@ use Rattle.ccp_base.specs.declared.ack.Ack.{Ack}
 use Rattle.ccp_base.specs.declared.exchange.Report.{Report}
 use Rattle.ccp_base.specs.declared.exchange.Reply.{Reply}
 use Rattle.ccp_base.specs.declared.exchange.Reply.TheVariants.{Nothing, Update, Change}
+use Rattle.ccp_base.specs.RunningEpochs.{Reporter}
 use Rattle.portus_core.specs.Epoch.{Event, acknowledged, updated, Reading, Track, track_at, after_event, after}
-use Rattle.portus_core.specs.Reports.{Reporter, reports, reports_at}
+use Rattle.portus_core.specs.Reports.{reports, reports_at}
 use Rattle.agent_core.specs.declared.agent.Agent.{Agent}
 use Rattle.agent_core.specs.Agents.{replied, values_of}
 use Rattle.flow_core.specs.declared.letter.Letter.{Letter}
 use Rattle.flow_core.specs.declared.letter.Letter.TheVariants.{A, T, C}
 use Rattle.flow_core.specs.Readings.{Flow}
-use Rattle.flow_core.specs.World.{Failure, Content, of_report, of_failure, Era, Taken, Answered, World, track_of, opening, has_room, after_ack, takeable, with_taken, after_take, with_reply, told_as, with_turn, answer_applied}
+use Rattle.flow_core.specs.World.{Failure, Content, of_report, of_failure, Era, Taken, Answered, World, track_of, has_room, after_ack, takeable, with_taken, after_take, with_reply, told_as, with_turn, answer_applied}
 use Rattle.flow_core.specs.Words.{Giving, with_given, after_letter, world_from, is_legal, legal_from}
 use Rattle.flow_core.specs.Books.{ticket_line}
 use Rattle.flow_core.specs.LiveText.{report_count, reports_told}

@@ -3,3 +3,5 @@ pub mod CampaignWord
 pub mod CampaignRow
 pub mod BareLetters
 pub mod ReportsMade
+pub mod FlowRow
+pub mod GivenFlows

@@ -6,6 +6,6 @@ pub mod LiftedRow
 pub mod RowReports
 -- those that only private contracts, invariants and proofs cite
 pub mod CaseRuns
-pub mod LinkedFlows
+pub mod ListedFlows
 pub mod Shares
 pub mod Parts

@@ -4,11 +4,12 @@ ghost use Rattle.std.specs.List.{All};
 ghost use Rattle.ccp_base.specs.Limits.{most_cases};
 ghost use Rattle.flow_core.specs.Readings.{over_codes};
 ghost use Rattle.flow_core.specs.Words.{world, legal, is_complete};
-ghost use Rattle.flow_core.specs.Cells.{CellState};
+ghost use Rattle.flow_core.specs.Cores.{CoreState};
 ghost use Rattle.flow_core.specs.declared.book.Book.{Book};
 ghost use Rattle.campaign_core.specs.CampaignWord.{plan};
 ghost use Rattle.campaign_core.specs.CampaignRow.{case_row};
 ghost use Rattle.campaign_gate.specs.CampaignBooks.{acks_of_case, IsCampaignBook, AreCampaignBooks, HasSourcePlan};
+ghost use Rattle.campaign_gate.specs.CaseRuns.{core_of_case};
 ghost use Rattle.campaign_gate.specs.LiftedRow.{RowHoldsForSources};
 
 use crate::case_result::CaseResult;
@@ -16,7 +17,7 @@ use crate::queue::Queue;
 use crate::workers::make_by_workers;
 use campaign_core::{CaseAcks, Cases, Row, Rows};
 use ccp_base::{Acks, Gate, NoMemory, Sequence, Workers};
-use flow_core::{Book, Case, Cell};
+use flow_core::{Book, Case, Core};
 use std::alloc::Global;
 use std::marker::Brand;
 use std::thread::Threads;
@@ -54,27 +55,27 @@ pub fn rows<R: Threads + Sync, G: Gate + Sync>(
 pub type Books = Sequence<Book>;
 
 /// The books of flows that are after their campaign words.
-fn books_of(alloc: Global, cells: Sequence<Cell>) -> Result<Books, NoMemory>
-    requires { All (λ (cell : CellState). cell.word ≡ plan cell.case) cells }
+fn books_of(alloc: Global, cores: Sequence<Core>) -> Result<Books, NoMemory>
+    requires { All (λ (core : CoreState). core ≡ core_of_case core.case) cores }
     ensures cases { IfOk result (λ books. map (λ (book : Book). book.case) books
-        ≡ map (λ (cell : CellState). cell.case) cells) }
+        ≡ map (λ (core : CoreState). core.case) cores) }
     ensures books { IfOk result (All IsCampaignBook) }
 {
-    let mut cells = Queue::from_vec(cells.into_vec());
+    let mut cores = Queue::from_vec(cores.into_vec());
     let mut books = Books::new(alloc);
-    while let Some(cell) = cells.take() {
-        books.push(book_of(cell))?;
+    while let Some(core) = cores.take() {
+        books.push(book_of(core))?;
     }
     Ok(books)
 }
 
 /// The book of a flow that is after its campaign word. It is separate since the proof of its caller cites its clauses.
-fn book_of(cell: Cell) -> Book
-    requires { cell.word ≡ plan cell.case }
-    ensures case { result.case ≡ cell.case }
+fn book_of(core: Core) -> Book
+    requires { core ≡ core_of_case core.case }
+    ensures case { result.case ≡ core.case }
     ensures book { IsCampaignBook result }
 {
-    cell.finish()
+    core.finish().book
 }
 
 /// The book of each of at most 1,024 cases after its campaign word, in the order of the cases. The workers are those of
@@ -90,8 +91,8 @@ pub fn books<R: Threads + Sync, G: Gate + Sync>(
     ensures books { IfOk result (λ books. AreCampaignBooks cases books) }
     ensures source { (case : Case) → HasSourcePlan case }
 {
-    let cells = make_by_workers::<Brand, Cell, R, G>(rt, alloc, cases.as_slice(), workers, gate)?;
-    books_of(alloc, cells)
+    let cores = make_by_workers::<Brand, Core, R, G>(rt, alloc, cases.as_slice(), workers, gate)?;
+    books_of(alloc, cores)
 }
 
 /// The acknowledgements that each of at most 1,024 cases gets on its campaign word, in the order of the cases. The

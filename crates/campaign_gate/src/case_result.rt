@@ -2,14 +2,14 @@
 ghost use Rattle.std.specs.Prelude.{◌≡◌, IfOk};
 ghost use Rattle.flow_core.specs.declared.case.Case.{Case};
 ghost use Rattle.campaign_core.specs.CampaignRow.{case_row};
-ghost use Rattle.campaign_gate.specs.CampaignBooks.{planned, acks_of_case};
+ghost use Rattle.campaign_gate.specs.CampaignBooks.{acks_of_case};
+ghost use Rattle.campaign_gate.specs.CaseRuns.{core_of_case};
 
-use crate::completion::run_to_end;
-use crate::linked::Linked;
-use crate::listed::Listed;
-use campaign_core::Row;
+use crate::case_run::run_to_end;
+use crate::listed_flow::ListedFlow;
+use campaign_core::{BareFlow, Row};
 use ccp_base::{Ack, Acks, NoMemory, Sequence};
-use flow_core::{Case, Cell};
+use flow_core::{Case, Core};
 use std::alloc::Global;
 
 /// A result that a worker makes of each of its cases.
@@ -26,20 +26,20 @@ impl CaseResult for Row {
     ghost of_case = { case_row };
 
     fn make(alloc: Global, case: Case) -> Result<Row, NoMemory> {
-        let run = run_to_end(alloc, Linked::new(alloc, case)?)?;
-        let row = run.row();
-        drop(run);
+        let flow = run_to_end::<BareFlow>(alloc, case)?;
+        let row = flow.row();
+        drop(flow);
         Ok(row)
     }
 }
 
 /// The flow after its campaign word, from which a book is made.
-impl CaseResult for Cell {
-    ghost of_case = { planned };
+impl CaseResult for Core {
+    ghost of_case = { core_of_case };
 
-    fn make(alloc: Global, case: Case) -> Result<Cell, NoMemory> {
-        let run = run_to_end(alloc, Cell::new(alloc, case)?)?;
-        Ok(run.flow)
+    fn make(alloc: Global, case: Case) -> Result<Core, NoMemory> {
+        let flow = run_to_end::<Core>(alloc, case)?;
+        Ok(flow.flow)
     }
 }
 
@@ -48,9 +48,7 @@ impl CaseResult for Sequence<Ack> {
     ghost of_case = { acks_of_case };
 
     fn make(alloc: Global, case: Case) -> Result<Acks, NoMemory> {
-        let run = run_to_end(alloc, Listed::new(alloc, case)?)?;
-        let Listed { linked, acks } = run.flow;
-        drop(linked);
-        Ok(acks)
+        let flow = run_to_end::<ListedFlow>(alloc, case)?;
+        Ok(flow.flow.into_acks())
     }
 }

@@ -1,22 +1,17 @@
-//! The run of a case: its flow on the way along the campaign word, and beside it what its row needs of the letters so
-//! far.
-ghost use Rattle.std.specs.Prelude.{◌≡◌, OnOk};
-ghost use Rattle.flow_core.specs.Cells.{CellState};
-ghost use Rattle.campaign_core.specs.CampaignRow.{case_row};
-ghost use Rattle.campaign_gate.specs.CaseRuns.{opened, next_in, sums_after};
-ghost use Rattle.campaign_gate.specs.CaseRuns.{IsOnWay, IsNextLetter, Makes, Onward, IsEnded};
-ghost use Rattle.campaign_gate.specs.LinkedFlows.{linked_at};
+//! The run of a case along its campaign word: its flow on the way, and the link that gives it its acknowledgements.
+ghost use Rattle.std.specs.Prelude.{◌≡◌, IfOk, OnOk};
+ghost use Rattle.campaign_core.specs.GivenFlows.{IsAfterHistory};
+ghost use Rattle.campaign_gate.specs.CaseRuns.{core_of_case, next_in, IsOnWay, IsNextLetter, Onward};
 
-use crate::campaign_flow::CampaignFlow;
-use crate::linked::Linked;
-use campaign_core::{Row, Tally, is_due};
-use ccp_base::NoMemory;
-use flow_core::{Bare, Letter};
+use campaign_core::{GivenFlow, TalliedFlow, is_due};
+use ccp_base::{Ack, NoMemory};
+use flow_core::{Bare, Case, Letter};
+use link_model::Link;
 use std::alloc::Global;
 
 /// The next letter of the campaign word, None at its end.
 #[inline(always)]
-pub(crate) fn next_letter(bare: &Bare) -> Option<Letter>
+fn next_letter(bare: &Bare) -> Option<Letter>
     ensures { result ≡ next_in bare.now }
 {
     if is_due(bare) {
@@ -31,45 +26,59 @@ pub(crate) fn next_letter(bare: &Bare) -> Option<Letter>
     None
 }
 
-/// A flow on the way along its campaign word, with its tally.
+/// A flow on the way along its campaign word, with its link.
 #[derive(Drop)]
-pub(crate) struct CaseRun<F: CampaignFlow> {
-    pub(crate) flow: F,
-    pub(crate) tally: Tally,
+struct CaseRun<F: GivenFlow> {
+    flow: TalliedFlow<F>,
+    link: Link,
+    /// The last acknowledgement: one place for all of them, which the link writes and the flow reads.
+    ack: Ack,
 }
 
-impl<F: CampaignFlow> CaseRun<F> {
-    /// The run of a flow that has no letter yet.
-    pub(crate) fn begin(flow: F) -> CaseRun<F>
-        requires { flow ≡ F.at (opened (F.bare_of flow).case) }
-        ensures flow { result.flow ≡ flow }
-        ensures on { IsOnWay F.at (F.bare_of flow).case result.flow result.tally }
+impl<F: GivenFlow> CaseRun<F> {
+    /// The run of a case before its first letter.
+    fn open(alloc: Global, case: Case) -> Result<CaseRun<F>, NoMemory>
+        ensures on { IfOk result (λ run. IsOnWay F.at run.flow.flow run.flow.tally run.link) }
+        ensures case { IfOk result (λ run. (F.bare_of run.flow.flow).case ≡ case) }
     {
-        let tally = Tally::opening(flow.bare());
-        CaseRun { flow, tally }
+        let flow = TalliedFlow::<F>::open(alloc, case)?;
+        match flow.bare().case().open_link(alloc) {
+            Ok(link) => Ok(CaseRun {
+                flow,
+                link,
+                ack: Ack::default(),
+            }),
+            Err(error) => {
+                drop(flow);
+                Err(error)
+            }
+        }
     }
 
-    /// Makes this letter, which is the next one.
-    pub(crate) fn make(&mut self, alloc: Global, letter: Letter) -> Result<(), NoMemory>
-        requires { IsNextLetter F.at (F.bare_of self.old.flow).case self.old.flow self.old.tally letter }
-        ensures { OnOk result (Onward F.at F.bare_of self.old.flow self.new.flow self.new.tally) }
+    /// Makes every letter that is left.
+    fn complete(&mut self, alloc: Global) -> Result<(), NoMemory>
+        requires { IsOnWay F.at self.old.flow.flow self.old.flow.tally self.old.link }
+        ensures { OnOk result (IsAfterHistory F.at (core_of_case (F.bare_of self.old.flow.flow).case)
+            self.new.flow.flow self.new.flow.tally) }
     {
-        self.grow(alloc, letter)?;
-        self.tally.raise_peak(self.flow.bare());
+        while let Some(letter) = next_letter(self.flow.bare()) {
+            self.make(alloc, letter)?;
+        }
         Ok(())
     }
 
-    /// Adds this letter to the flow's word, and its acknowledgement to the sums.
+    /// Makes this letter, which is the next one.
     #[inline(always)]
-    fn grow(&mut self, alloc: Global, letter: Letter) -> Result<(), NoMemory>
-        requires { IsNextLetter F.at (F.bare_of self.old.flow).case self.old.flow self.old.tally letter }
-        ensures made { OnOk result (Makes F.at letter self.old.flow self.new.flow) }
-        ensures sums { OnOk result ((cell : CellState) → self.old.flow ≡ F.at cell
-            → self.new.tally.sums ≡ sums_after letter cell self.old.tally.sums) }
-        ensures peak { self.new.tally.peak ≡ self.old.tally.peak }
+    fn make(&mut self, alloc: Global, letter: Letter) -> Result<(), NoMemory>
+        requires { IsNextLetter F.at self.old.flow.flow self.old.flow.tally self.old.link letter }
+        ensures { OnOk result (Onward F.at F.bare_of self.old.flow.flow
+            self.new.flow.flow self.new.flow.tally self.new.link) }
     {
         match letter {
-            Letter::A => self.flow.hear(&mut self.tally.sums),
+            Letter::A => {
+                self.hear();
+                Ok(())
+            }
             Letter::T => self.flow.take(alloc),
             Letter::C => {
                 self.flow.settle();
@@ -77,14 +86,37 @@ impl<F: CampaignFlow> CaseRun<F> {
             }
         }
     }
+
+    /// Takes the link's next acknowledgement. The link computes its two rates only if the flow gets them.
+    #[inline(always)]
+    fn hear(&mut self)
+        requires { IsNextLetter F.at self.old.flow.flow self.old.flow.tally self.old.link Letter.A }
+        ensures { Onward F.at F.bare_of self.old.flow.flow self.new.flow.flow self.new.flow.tally self.new.link }
+    {
+        let window = self.flow.bare().cwnd();
+        let rates = self.flow.flow.gets_rates();
+        self.link.next_into(window, rates, &mut self.ack);
+        self.flow.hear(&self.ack);
+    }
 }
 
-impl CaseRun<Linked> {
-    /// The row of the flow, which is at the end of its campaign word.
-    pub(crate) fn row(&self) -> Row
-        requires { IsEnded linked_at self.now.flow.bare.case self.now.flow self.now.tally }
-        ensures { result ≡ case_row self.now.flow.bare.case }
-    {
-        Row::of(&self.flow.bare, self.tally.sums, self.tally.peak)
+/// The flow of a case after its campaign word, with its tally.
+pub(crate) fn run_to_end<F: GivenFlow>(
+    alloc: Global,
+    case: Case,
+) -> Result<TalliedFlow<F>, NoMemory>
+    ensures { IfOk result (λ tallied. IsAfterHistory F.at (core_of_case case) tallied.flow tallied.tally) }
+{
+    let mut run = CaseRun::<F>::open(alloc, case)?;
+    match run.complete(alloc) {
+        Ok(()) => {
+            let CaseRun { flow, link, .. } = run;
+            drop(link);
+            Ok(flow)
+        }
+        Err(error) => {
+            drop(run);
+            Err(error)
+        }
     }
 }

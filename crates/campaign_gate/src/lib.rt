@@ -2,14 +2,11 @@
 #![tactic(auto)]
 
 pub mod calls;
-mod campaign_flow;
 mod case_desk;
 mod case_result;
 mod case_run;
-mod completion;
 mod laws;
-mod linked;
-mod listed;
+mod listed_flow;
 mod queue;
 mod share;
 mod workers;

@@ -1,5 +1,6 @@
 -- The line of an acknowledgement by labels: each is a blank, a primitive's name and `=`.
-use Rattle.std.specs.Prelude.{ℕ, zero, suc, if◌then◌else◌, List, [], ◌++◌, map, codes, decimal, slice_index, slice_index_or}
+use Rattle.std.specs.Prelude.{ℕ, zero, suc, ◌+◌, ◌*◌, if◌then◌else◌, List, [], ◌++◌, map, codes, decimal, slice_index, slice_index_or}
+use Rattle.ccp_base.specs.Limits.{primitive_count}
 use Rattle.ccp_base.specs.PrimitiveNames.{PrimitiveName, primitive_names}
 use Rattle.campaign_report.specs.AcksText.{is_shown}
 
@@ -11,7 +12,7 @@ abbrev pub item_size : ℕ
 item_size = 40
 
 abbrev pub line_size : ℕ
-line_size = 601
+line_size = item_size * primitive_count + 1
 
 abbrev pub label_of : PrimitiveName → List ℕ
 label_of known = codes " " ++ (known.1 ++ codes "=")

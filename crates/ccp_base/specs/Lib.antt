@@ -17,6 +17,7 @@ pub mod Operations
 pub mod Outside
 pub mod Parts
 pub mod PrimitiveNames
+pub mod RunningEpochs
 pub mod Saturating
 pub mod SystemAnswers
 pub mod Text

@@ -11,6 +11,8 @@ use Rattle.ccp_base.specs.declared.arithmetic.FaultKind.{FaultKind}
 use Rattle.ccp_base.specs.declared.exchange.Notice.{Notice}
 use Rattle.ccp_base.specs.declared.exchange.Report.{Report}
 use Rattle.ccp_base.specs.declared.place.Place.{Place}
+use Rattle.ccp_base.specs.declared.running_epoch.RunningEpoch.{RunningEpoch}
+use Rattle.ccp_base.specs.RunningEpochs.{first_in, opening_epoch}
 use Rattle.ccp_base.specs.FieldReg.{first_bad_pair}
 use Rattle.ccp_base.specs.Limits.{most_flows, most_input_bytes, most_kept_programs}
 use Rattle.portus_core.specs.declared.env.Env.{Env}
@@ -40,6 +42,7 @@ use Rattle.ccp_messages.specs.declared.message.Message.TheVariants.{Create, Inst
 use Rattle.ccp_messages.specs.declared.message.Message.TheVariants as message
 use Rattle.ccp_messages.specs.declared.reason.Reason.TheVariants.{FlowAbove, ProgramAbove, TooWide}
 use Rattle.fold_machine.specs.declared.acked.Acked.{Acked}
+use Rattle.fold_machine.specs.declared.acked.Acked.TheVariants as acked
 use Rattle.fold_machine.specs.Heard.{after_acknowledgement, after_made, heard_where}
 use Rattle.fold_machine.specs.MachineState.{MachineState}
 use Rattle.flow_core.specs.Readings.{outcome_of}
@@ -47,9 +50,8 @@ use Rattle.flow_core.proofs.SimulatedEpochs.{outcome_placed, heard-simulated, de
 use Rattle.flow_core.proofs.ValueLemmas.{values-alike}
 use Rattle.fold_run.specs.Fold.{IsFoldNotice, fold_reporter, fold_start, told_fault, with_room}
 use Rattle.feed_core.specs.Answering.{end_from}
-use Rattle.feed_core.specs.declared.flow.Epoch.{Epoch}
 use Rattle.feed_core.specs.declared.flow.Flow.{Flow}
-use Rattle.feed_core.specs.Feed.{FeedState, no_flows, Answer, MessageAnswer, there, answer_message, counted, refused, created_at, fresh_flow, installed_at, installed_as, changed_at, changed_to, changed_with, changed_flow, running_code, flow_acked, acked_on, flow_after, message_about, in_version}
+use Rattle.feed_core.specs.Feed.{FeedState, no_flows, Answer, MessageAnswer, there, answer_message, counted, refused, created_at, fresh_flow, installed_at, installed_as, changed_at, changed_to, changed_with, changed_flow, running_code, flow_acked, acked_on, epoch_heard, flow_after, message_about, in_version}
 use Rattle.feed_core.specs.FeedHolds.{IsAcceptedThere, IsFlowThere}
 use Rattle.feed_core.specs.FeedBytes.{Tail, left, Fed, answer_bytes, answer_to, with_answers, fed_no_more, fed_on, fed, frames_from, feed_of}
 use Rattle.feed_core.proofs.FrameLawLemmas.{fed-fuel}
@@ -126,20 +128,32 @@ module _ (d : Deployment) (built : Built) (all : List Ack) where
   abbrev places : List Place
   places = built.places
 
-  -- the one epoch of the flow
-  abbrev epoch : Epoch
-  epoch = record { program = d.program; number = 0 }
+  -- the one epoch of the flow, with its unreported span from this count
+  abbrev epoch : ℕ → RunningEpoch
+  epoch first = opening_epoch d.program first
+
+  abbrev in_epoch : ℕ → Flow → Flow
+  in_epoch first flow = record flow { epoch = Some (epoch first) }
+
+  -- it goes on with each acknowledgement
+  heard-epoch : (came : Option Acked) (count first : ℕ) → (later : ℕ) × (epoch_heard came count (Some (epoch first)) ≡ Some (epoch later))
+  heard-epoch None count first = (first, refl)
+  heard-epoch (Some acked.Quiet) count first = (first, refl)
+  heard-epoch (Some acked.Reported) count first = (count, refl)
+  heard-epoch (Some acked.Held) count first = (first, refl)
+  heard-epoch (Some (acked.Faulted kind index)) count first = (first, refl)
+  heard-epoch (Some acked.Stopped) count first = (first, refl)
 
   abbrev track_of : Flow → Track
   track_of flow = record {
     env = env_of flow.machine.kept;
     is_stopped = flow.machine.is_stopped;
-    first = flow.first;
+    first = first_in flow.epoch;
     count = flow.count;
   }
 
   abbrev answer : Option Acked × MachineState → Flow → Ack → Answer
-  answer came flow ack = in_version d.version (message_about came ack d.flow epoch flow)
+  answer came flow ack = in_version d.version (message_about came ack d.flow flow)
 
   -- an acknowledgement that has this answer by the datapath and this outcome by the source has the same reports by both,
   -- and no fault, or has the same fault by both, and no report
@@ -159,13 +173,13 @@ module _ (d : Deployment) (built : Built) (all : List Ack) where
     track : track_of (flow_after came ack flow) ≡ after_outcome met (track_of flow)
     agrees : Agrees flow ack came met
 
-  step-made : (o : CodeOutcome) (kept : Kept) (ran : ℕ) (mean : Mean) → seen places o ≡ Some mean → (flow : Flow) (ack : Ack) → slice_get all flow.count ≡ Some ack
-      → Step flow ack (after_made (record { outcome = o; kept = kept; ran = ran }) flow.machine) (outcome_placed (place_at places) (outcome_of o), env_of kept)
-  step-made quiet kept ran mean is flow ack at = record { track = refl; agrees = reports_alone refl refl }
-  step-made (reported fields) kept ran mean is flow ack at = record { track = refl; agrees = reports_alone refl refl }
-  step-made held kept ran mean is flow ack at = record { track = refl; agrees = reports_alone refl refl }
-  step-made lost kept ran mean is flow ack at = record { track = refl; agrees = reports_alone refl refl }
-  step-made (faulted kind index) kept ran mean is flow ack at =
+  step-made : (o : CodeOutcome) (kept : Kept) (ran : ℕ) (mean : Mean) → seen places o ≡ Some mean → (first : ℕ) (flow : Flow) (ack : Ack) → slice_get all flow.count ≡ Some ack
+      → Step (in_epoch first flow) ack (after_made (record { outcome = o; kept = kept; ran = ran }) flow.machine) (outcome_placed (place_at places) (outcome_of o), env_of kept)
+  step-made quiet kept ran mean is first flow ack at = record { track = refl; agrees = reports_alone refl refl }
+  step-made (reported fields) kept ran mean is first flow ack at = record { track = refl; agrees = reports_alone refl refl }
+  step-made held kept ran mean is first flow ack at = record { track = refl; agrees = reports_alone refl refl }
+  step-made lost kept ran mean is first flow ack at = record { track = refl; agrees = reports_alone refl refl }
+  step-made (faulted kind index) kept ran mean is first flow ack at =
       let found = there-is kind (slice_get places index) mean is in
       let notice : Notice = record { flow = 0; program = 0; epoch = 0; at = flow.count; kind = kind; index = index; now = ack.now; cwnd = kept.cwnd } in
       record {
@@ -190,24 +204,29 @@ module _ (d : Deployment) (built : Built) (all : List Ack) where
   abbrev came_at : Flow → Ack → Option Acked × MachineState
   came_at flow ack = after_acknowledgement code ack true flow.machine
 
-  step : (flow : Flow) (ack : Ack) → IsEnvOf form (env_of flow.machine.kept) → slice_get all flow.count ≡ Some ack → Step flow ack (came_at flow ack) (met_at flow ack)
-  step flow ack shape at = go flow.machine.is_stopped refl
+  step-in : (first : ℕ) (flow : Flow) (ack : Ack) → IsEnvOf form (env_of flow.machine.kept) → slice_get all flow.count ≡ Some ack → Step (in_epoch first flow) ack (came_at flow ack) (met_at flow ack)
+  step-in first flow ack shape at = go flow.machine.is_stopped refl
     where
       StepBy : Bool → Type 0
-      StepBy b = Step flow ack (heard_where b code ack true flow.machine) (heard (by_source form) b (env_of flow.machine.kept) ack true)
+      StepBy b = Step (in_epoch first flow) ack (heard_where b code ack true flow.machine) (heard (by_source form) b (env_of flow.machine.kept) ack true)
 
       go : (b : Bool) → flow.machine.is_stopped ≡ b → StepBy flow.machine.is_stopped
       go true e = subst StepBy (sym e) (record {
-        track = λ i. record { env = env_of flow.machine.kept; is_stopped = e i; first = flow.first; count = flow.count + 1 };
+        track = λ i. record { env = env_of flow.machine.kept; is_stopped = e i; first = first; count = flow.count + 1 };
         agrees = reports_alone refl refl;
       })
       go false e =
           let made : Made = one_by_code code flow.machine.kept ack true in
           subst StepBy (sym e)
-          (subst (λ (met : Outcome Cause × Env). Step flow ack (after_made made flow.machine) met)
+          (subst (λ (met : Outcome Cause × Env). Step (in_epoch first flow) ack (after_made made flow.machine) met)
           (heard-simulated form code places built.simulates false (env_of flow.machine.kept) ack true shape)
           (step-made made.outcome made.kept made.ran (one_of form (env_of flow.machine.kept) ack true).0
-          (built.simulates.3 (env_of flow.machine.kept) ack true shape).0 flow ack at))
+          (built.simulates.3 (env_of flow.machine.kept) ack true shape).0 first flow ack at))
+
+  step : (first : ℕ) (flow : Flow) (ack : Ack) → flow.epoch ≡ Some (epoch first) → IsEnvOf form (env_of flow.machine.kept) → slice_get all flow.count ≡ Some ack
+      → Step flow ack (came_at flow ack) (met_at flow ack)
+  step first flow ack is shape at =
+      subst (λ (f : Flow). Step f ack (came_at f ack) (met_at f ack)) (λ i. record flow { epoch = sym is i }) (step-in first flow ack shape at)
 
   -- ---- a flow that runs the program, in a datapath
 
@@ -215,7 +234,8 @@ module _ (d : Deployment) (built : Built) (all : List Ack) where
     within : d.flow < length state.flows
     there_is : there state.flows d.flow ≡ Some flow
     code_is : there state.programs d.program ≡ Some code
-    epoch_is : flow.epoch ≡ Some epoch
+    first : ℕ
+    epoch_is : flow.epoch ≡ Some (epoch first)
     version_is : flow.version ≡ d.version
 
   abbrev with_flow_counted : FeedState → Flow → FeedState
@@ -233,17 +253,20 @@ module _ (d : Deployment) (built : Built) (all : List Ack) where
     acked-there =
         ap (λ f. counted (flow_acked f state d.version d.flow ack)) runs.there_is
         ∙ ap (λ e. counted (acked_on (running_code e state.programs) state d.flow ack flow)) runs.epoch_is
-        ∙ ap (λ c. counted (acked_on (option_map (λ code. (epoch, code)) c) state d.flow ack flow)) runs.code_is
-        ∙ ap (λ (v : Version). (in_version v (message_about (came_at flow ack) ack d.flow epoch flow), with_flow_counted state flow_next)) runs.version_is
+        ∙ ap (λ c. counted (acked_on c state d.flow ack flow)) runs.code_is
+        ∙ ap (λ (v : Version). (in_version v (message_about (came_at flow ack) ack d.flow flow), with_flow_counted state flow_next)) runs.version_is
 
     runs-on : Runs (with_flow_counted state flow_next) flow_next
-    runs-on = record {
-      within = omega (arith, runs.within, length-set state.flows d.flow (Some flow_next));
-      there_is = put-there state.flows d.flow flow_next runs.within;
-      code_is = runs.code_is;
-      epoch_is = runs.epoch_is;
-      version_is = runs.version_is;
-    }
+    runs-on =
+        let later = heard-epoch (came_at flow ack).0 (flow.count + 1) runs.first in
+        record {
+          within = omega (arith, runs.within, length-set state.flows d.flow (Some flow_next));
+          there_is = put-there state.flows d.flow flow_next runs.within;
+          code_is = runs.code_is;
+          first = later.0;
+          epoch_is = ap (epoch_heard (came_at flow ack).0 (flow.count + 1)) runs.epoch_is ∙ later.1;
+          version_is = runs.version_is;
+        }
 
   -- ---- all acknowledgements
 
@@ -292,7 +315,7 @@ module _ (d : Deployment) (built : Built) (all : List Ack) where
   hears [] state flow runs shape here = record { notice = None; reports = refl; fault = refl; noticed = λ notice e. absurd (none-some notice e) }
   hears (ack ∷ rest) state flow runs shape here =
       let at = next-item flow.count all ack rest here in
-      let s = step flow ack shape at in
+      let s = step runs.first flow ack runs.epoch_is shape at in
       let next : Flow = flow_next state flow runs ack in
       let env : env_of next.machine.kept ≡ (met_at flow ack).1 = ap (λ (t : Track). t.env) s.track in
       let shape' = subst (λ (e : Env). IsEnvOf form e) (sym env) (heard-shape form flow.machine.is_stopped (env_of flow.machine.kept) ack shape) in
@@ -376,6 +399,7 @@ module _ (d : Deployment) (built : Built) (all : List Ack) where
       within = omega (arith, flow-within, length-set state.flows d.flow (Some fresh), length-set with_installed.flows d.flow (Some begun));
       there_is = put-there with_installed.flows d.flow begun (omega (arith, flow-within, length-set state.flows d.flow (Some fresh)));
       code_is = code-there;
+      first = 0;
       epoch_is = refl;
       version_is = refl;
     }

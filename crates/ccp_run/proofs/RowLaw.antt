@@ -11,8 +11,7 @@ use Rattle.flow_core.specs.Words.{world}
 use Rattle.flow_core.specs.World.{World}
 use Rattle.campaign_core.specs.CampaignWord.{plan_over}
 use Rattle.campaign_core.specs.CampaignRow.{peak_of, row_over}
-use Rattle.shared_run.specs.FlowRow.{flow_row, peak_of as core_peak}
-use Rattle.shared_run.specs.RoundLetters.{world_of_core}
+use Rattle.campaign_core.specs.FlowRow.{world_of_core, flow_peak, flow_row}
 use Rattle.ccp_run.specs.SharedLaws.{core_account, TellEach, TellsSharedRows}
 use Rattle.ccp_run.specs.SharedSeries.{source_flows}
 use Rattle.ccp_run.specs.TextLaws.{TellsRow, TellsRows}
@@ -38,7 +37,7 @@ each_told : (sources : Sources) (cores : List CoreState)
 each_told sources [] = tt
 each_told sources (core ∷ rest) =
     let read = flow_from sources in (
-      row_told (read core.case) (world_of_core read core) (core_peak read core),
+      row_told (read core.case) (world_of_core read core) (flow_peak read core),
       each_told sources rest,
     )
 

@@ -17,8 +17,8 @@ use Rattle.shared_link.specs.declared.shared_case.FlowLink.{FlowLink}
 use Rattle.shared_link.specs.declared.shared_case.SharedCase.{SharedCase}
 use Rattle.shared_link.specs.SharedLimits.{IsFlowWithin, IsWithin}
 use Rattle.shared_link.specs.SharedRounds.{acks_after}
-use Rattle.shared_run.specs.RoundLetters.{CaseReading, opened, closed_flow}
-use Rattle.shared_run.specs.FlowRow.{flow_row}
+use Rattle.campaign_core.specs.FlowRow.{CaseReading, opened, flow_row}
+use Rattle.shared_run.specs.RoundLetters.{closed_flow}
 use Rattle.shared_run.specs.LiftedRun.{AreSimulated}
 use Rattle.shared_run.proofs.TurnLemmas.{part-case, settled-case}
 use Rattle.shared_run.specs.SharedHistory.{Progress, progress, asks_of, parts, after_round, have_all, rounds_from, round_limit, whole_run, flows_at_end, shared_rows}

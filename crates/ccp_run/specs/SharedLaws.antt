@@ -8,7 +8,7 @@ use Rattle.flow_core.specs.Cores.{CoreState}
 use Rattle.flow_core.specs.LiveText.{Account, account_of, flow_from}
 use Rattle.campaign_core.specs.declared.row.Row.{Row}
 use Rattle.shared_link.specs.declared.shared_case.SharedCase.{SharedCase}
-use Rattle.shared_run.specs.RoundLetters.{world_of_core}
+use Rattle.campaign_core.specs.FlowRow.{world_of_core}
 use Rattle.shared_run.specs.SharedHistory.{shared_rows}
 use Rattle.ccp_run.specs.SharedSeries.{source_flows}
 use Rattle.ccp_run.specs.TextLaws.{TellsRow}

@@ -10,7 +10,7 @@ use Rattle.flow_core.specs.LiveText.{flow_from, flow_part}
 use Rattle.campaign_report.specs.AcksText.{acks_text}
 use Rattle.scenario_json.specs.Cases.{case_names}
 use Rattle.shared_link.specs.declared.shared_case.SharedCase.{SharedCase}
-use Rattle.shared_run.specs.RoundLetters.{world_of_core}
+use Rattle.campaign_core.specs.FlowRow.{world_of_core}
 use Rattle.shared_run.specs.SharedHistory.{flows_at_end}
 use Rattle.ccp_run.specs.declared.outcome.ModeOutput.{ModeOutput}
 use Rattle.ccp_run.specs.declared.refusal.Limit.TheVariants.{Input}

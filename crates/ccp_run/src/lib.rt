@@ -18,7 +18,7 @@ mod unheard;
 
 pub use ccp_words::{Alone, DriveText, ToolMode};
 pub use drive_end::DriveEnd;
-pub use feed_core::{Epoch, Feed, FeedEnd, Flow};
+pub use feed_core::{Feed, FeedEnd, Flow};
 pub use laws::{
     acks_read_back_law, drive_law, fold_feed_law, input_law, shared_timeline_rows_law,
     timeline_audited_law, timeline_row_law,

@@ -1,5 +1,6 @@
 -- After a parse of the tool's command line the mode has a value, which is one of the names.
 use Rattle.std.proofs.Common.{◌≡◌, ◌∙◌, ◌<◌, ◌||◌, ℕ, zero, suc, Bool, true, false, List, [], ◌∷◌, Some, length, map, codes, bytes_eq, slice_index_or, ap, sym, refl, subst, arith, inl, inr}
+use Rattle.std.proofs.lemmas.Bool.{or_parts}
 use Rattle.std.specs.List.{list_all, list_any}
 use Rattle.clap.specs.Built.{IsParsedFrom, IsPlain}
 use Rattle.clap.specs.Facts.{args_of, least_values, unwrap_or_range}
@@ -26,15 +27,11 @@ first : (xs : List Arg) (r : Rule) (rs : List Rule) (d : Arg) → map rule_of xs
 first [] r rs d e = cc
 first (x ∷ xs) r rs d e = (omega arith, cc)
 
-neither : (a b : Bool) → (a || b) ≡ false → (a ≡ false) × (b ≡ false)
-neither true b e = cc
-neither false b e = (refl, e)
-
 unnamed : (xs : List Arg) (id : Text) → list_any (λ (s : Rule). bytes_eq s.id id) (map rule_of xs) ≡ false
     → (j : ℕ) (d : Arg) → j < length xs → bytes_eq (slice_index_or xs j d).id.now id ≡ true → ⊥
 unnamed [] id none j d lt is = absurd (omega arith)
-unnamed (x ∷ xs) id none zero d lt is = let e = (neither (bytes_eq x.id.now id) _ none).0 in cc
-unnamed (x ∷ xs) id none (suc j) d lt is = unnamed xs id (neither (bytes_eq x.id.now id) _ none).1 j d (omega arith) is
+unnamed (x ∷ xs) id none zero d lt is = let e = (or_parts (bytes_eq x.id.now id) _ none).0 in cc
+unnamed (x ∷ xs) id none (suc j) d lt is = unnamed xs id (or_parts (bytes_eq x.id.now id) _ none).1 j d (omega arith) is
 
 -- an argument after the first has another id
 alone : (xs : List Arg) (r : Rule) (rs : List Rule) (id : Text) → map rule_of xs ≡ r ∷ rs → list_any (λ (s : Rule). bytes_eq s.id id) rs ≡ false

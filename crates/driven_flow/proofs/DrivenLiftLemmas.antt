@@ -7,6 +7,7 @@ use Rattle.ccp_base.specs.declared.ack.Ack.{Ack}
 use Rattle.ccp_base.specs.declared.arithmetic.FaultKind.{FaultKind}
 use Rattle.ccp_base.specs.declared.place.Place.{Place}
 use Rattle.ccp_base.specs.declared.exchange.Report.{Report}
+use Rattle.ccp_base.specs.RunningEpochs.{Reporter, reporter}
 use Rattle.portus_core.specs.declared.env.Env.{Env}
 use Rattle.portus_core.specs.ProgramForm.{form_of}
 use Rattle.portus_core.specs.Programs.{Form}
@@ -14,7 +15,6 @@ use Rattle.portus_core.specs.Value.{Cause}
 use Rattle.portus_core.specs.OneAcknowledgement.{IsEnvOf}
 use Rattle.portus_core.proofs.EnvShapes.{IsEnvOf-declared_env, IsEnvOf-with_values}
 use Rattle.portus_core.specs.Epoch.{Outcome, Track, track_at, heard, with_values}
-use Rattle.portus_core.specs.Reports.{Reporter}
 use Rattle.reg_code.specs.declared.code.Code.{Code}
 use Rattle.reg_compiler.specs.declared.built.Built.{Built}
 use Rattle.reg_compiler.specs.Simulation.{Simulates}
@@ -31,7 +31,7 @@ use Rattle.flow_core.specs.LiveText.{source_at, sources_of, report_count, report
 use Rattle.flow_core.specs.Readings.{Flow}
 use Rattle.flow_core.specs.Summaries.{summary}
 use Rattle.flow_core.specs.Words.{Giving, from_link, with_given}
-use Rattle.flow_core.specs.World.{Failure, Content, of_report, of_failure, Era, Taken, Answered, World, time_of, track_in, track_of, era_of, reporter, failures_met, untold_after, with_met, has_room, after_ack, takeable, with_taken, told_as}
+use Rattle.flow_core.specs.World.{Failure, Content, of_report, of_failure, Era, Taken, Answered, World, time_of, track_in, track_of, era_of, failures_met, untold_after, with_met, has_room, after_ack, takeable, with_taken, told_as}
 use Rattle.flow_core.proofs.SimulatedEpochs.{met_placed, heard-simulated, after-simulated, IsEnvOf-after, declared-simulated}
 use Rattle.flow_core.proofs.PlacedParts.{take-lifts, can-placed, failures-placed, reports-placed, held-placed, untold-placed}
 use Rattle.driven_flow.specs.declared.case.DrivenCase.{DrivenCase}

@@ -4,6 +4,7 @@ use Rattle.std.proofs.Math.Seq.{take-length}
 use Rattle.std.proofs.lemmas.Option.{same_Some, none-some}
 use Rattle.std.proofs.lemmas.Slice.Eq.{bytes_eq-Decides, starts_is}
 use Rattle.std.proofs.lemmas.Bool.Decides.{Decides-eqb, nat_tests}
+use Rattle.std.proofs.lemmas.Bool.{false_from_ne_true}
 use Rattle.std.specs.Bool.{OnTrue, OnFalse}
 use Rattle.std.specs.List.{starts_with}
 use Rattle.ccp_base.specs.declared.parts.Separator.TheVariants.{LineFeed}
@@ -64,12 +65,8 @@ past-bytes line (byte ∷ rest) more free = go (past-bytes (line ++ byte ∷ [])
 pub no-feed : (text : List ℕ) → ((k : ℕ) → 0 ≤ k → k < length text → eqb (slice_index text k) 10 ≢ true) → first_of LineFeed text ≡ text
 no-feed [] none = refl
 no-feed (byte ∷ rest) none =
-    ap (λ b. cond b [] (byte ∷ first_of LineFeed rest)) (other_than (eqb byte 10) (none 0 (omega arith) (omega arith)))
+    ap (λ b. cond b [] (byte ∷ first_of LineFeed rest)) (false_from_ne_true (eqb byte 10) (none 0 (omega arith) (omega arith)))
     ∙ ap (λ xs. byte ∷ xs) (no-feed rest (λ k low high. none (suc k) (omega arith) (omega arith)))
-  where
-    other_than : (b : Bool) → b ≢ true → b ≡ false
-    other_than true differs = absurd (differs refl)
-    other_than false differs = refl
 
 -- bytes up to their first line feed end their line
 to-feed : (line text more : List ℕ) (at : ℕ) → at < length text → ((k : ℕ) → 0 ≤ k → k < at → eqb (slice_index text k) 10 ≢ true) → eqb (slice_index text at) 10 ≡ true
@@ -82,15 +79,11 @@ to-feed line (byte ∷ rest) more zero within before is b sep = go b (ap is_sepa
     go true sep = at-feed line byte more is ∙ fed-true line (byte ∷ []) more sep
     go false sep = at-feed line byte more is ∙ fed-false line (byte ∷ []) more sep
 to-feed line (byte ∷ rest) more (suc at) within before is b sep =
-    let other : eqb byte 10 ≡ false = other_than (eqb byte 10) (before 0 (omega arith) (omega arith)) in
+    let other : eqb byte 10 ≡ false = false_from_ne_true (eqb byte 10) (before 0 (omega arith) (omega arith)) in
     at-other line byte (take (suc at) rest ++ more) other
     ∙ to-feed (line ++ byte ∷ []) rest more at (omega arith) (λ k low high. before (suc k) (omega arith) (omega arith)) is b
     (ap is_separator (append_assoc line (byte ∷ []) (take at rest)) ∙ sep)
     ∙ ap (λ l. cond b (Some ([], more)) (with_front l (divided_from [] more))) (append_assoc line (byte ∷ []) (take (suc at) rest))
-  where
-    other_than : (b : Bool) → b ≢ true → b ≡ false
-    other_than true differs = absurd (differs refl)
-    other_than false differs = refl
 
 -- a whole line other than `---` belongs to the text
 pub goes-on : (line text : List ℕ) (at : ℕ) → at < length text → ((k : ℕ) → 0 ≤ k → k < at → eqb (slice_index text k) 10 ≢ true) → eqb (slice_index text at) 10 ≡ true

@@ -11,6 +11,8 @@ use Rattle.ccp_base.specs.declared.exchange.Notice.{Notice}
 use Rattle.ccp_base.specs.declared.exchange.Report.{Report}
 use Rattle.ccp_base.specs.declared.exchange.Told.{Told}
 use Rattle.ccp_base.specs.declared.exchange.Told.TheVariants as said
+use Rattle.ccp_base.specs.RunningEpochs.{reporter, opening_epoch, next_epoch, report_at, reported_epoch}
+use Rattle.ccp_base.specs.declared.running_epoch.RunningEpoch.{RunningEpoch}
 use Rattle.portus_core.specs.declared.env.Env.{Env}
 use Rattle.portus_core.specs.Epoch as epoch
 use Rattle.portus_core.specs.Epoch.{Outcome, quiet, reported, held, failed, stopped, stops, heard}
@@ -21,17 +23,14 @@ use Rattle.fold_machine.specs.MachineState.{MachineState, Fits}
 use Rattle.fold_machine.specs.Store.{slot_words}
 use Rattle.slot_pool.specs.Pool.{PoolState, words_at, free_of}
 use Rattle.flow_core.specs.declared.bare.Issued.{Issued}
-use Rattle.flow_core.specs.declared.running_epoch.RunningEpoch.{RunningEpoch}
 use Rattle.flow_core.specs.Bares.{reports_in, step_machine, step_count}
 use Rattle.flow_core.specs.LiveText.{reports_told}
 use Rattle.flow_core.specs.MachineCalls.{heard_on}
 use Rattle.flow_core.specs.Outbox.{OutboxState, Lies, next_told, notice_left, empty_outbox}
 use Rattle.flow_core.specs.Readings.{Flow, env_of, by_code}
 use Rattle.flow_core.specs.ReportWords.{report_in}
-use Rattle.flow_core.specs.RunningEpochs.{report_at, reported_epoch, next_epoch, opening_epoch}
 use Rattle.flow_core.specs.States.{some_count}
 use Rattle.flow_core.specs.Summaries.{Summary, summary, step_outcome, outcome_at, step_ack, next_telling, with_told, step_take, can_tell}
-use Rattle.flow_core.specs.World.{reporter}
 use Rattle.flow_core.proofs.BareLemmas.{reports-stored, length-in}
 use Rattle.flow_core.proofs.ValueLemmas.{values-alike}
 use Rattle.driven_flow.specs.declared.case.DrivenCase.{DrivenCase}
@@ -173,8 +172,8 @@ module _ (flow : ℕ) (s : Parts) (ack : Ack) (machine : MachineState) (outbox :
     (framed : machine ≡ record s.machine { further = machine.further })
     (lies : Lies machine.further outbox.slots (reports_in s.machine.further s.outbox.slots ++ report ∷ []))
     (untold : outbox.untold ≡ s.outbox.untold)
-    (is_report : report ≡ report_at s.epoch flow s.acks ack s.machine.kept.cwnd s.machine.kept.rate s.machine.report)
-    (is_epoch : epoch ≡ reported_epoch s.acks s.epoch) where
+    (is_report : report ≡ report_at s.epoch flow (s.acks + 1) ack.now s.machine.kept.cwnd s.machine.kept.rate s.machine.report)
+    (is_epoch : epoch ≡ reported_epoch (s.acks + 1) s.epoch) where
   abbrev pub put : Parts
   put = record s { machine = machine; outbox = outbox; epoch = epoch }
 

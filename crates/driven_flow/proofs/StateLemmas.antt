@@ -1,9 +1,10 @@
 -- One more letter at a driven flow's word: what holds of all that it keeps holds after it.
-use Rattle.std.specs.Prelude.{Result, Ok, Err, OnOk, ◌≡◌, ℕ, ◌+◌, ◌<◌, ◌≤◌, max, true, false, is_some, Option, Some, None, option_map, unwrap_or, List, [], ◌∷◌, ◌++◌, length, map, slice_get, refl}
+use Rattle.std.specs.Prelude.{Result, Ok, Err, OnOk, ◌≡◌, ℕ, ◌+◌, ◌<◌, ◌≤◌, max, true, false, is_some, Option, Some, None, option_map, List, [], ◌∷◌, ◌++◌, length, map, slice_get, refl}
 use Rattle.driven_flow.specs.Driven.{Codes}
 use Rattle.std.proofs.Common.{arith, ap, sym, ◌∙◌, subst, length-append, append-nil}
 use Rattle.std.proofs.lemmas.Bool.{ltb-true}
 use Rattle.std.proofs.lemmas.List.{map-append}
+use Rattle.std.proofs.lemmas.Option.{same_Some}
 use Rattle.ccp_base.specs.FieldReg.{Pair}
 use Rattle.ccp_base.specs.declared.ack.Ack.{Ack}
 use Rattle.ccp_base.specs.declared.arithmetic.FaultKind.{FaultKind}
@@ -281,9 +282,6 @@ some-of : {Y : Type 0} → (o : Option Y) → is_some o ≡ true → (y : Y) × 
 some-of None some = absurd (let wrong : false ≡ true = some in (cc))
 some-of (Some y) some = (y, refl)
 
-some-same : {Y : Type 0} → (one other : Y) → Some one ≡ Some other → one ≡ other
-some-same one other same = ap (λ (o : Option _). unwrap_or o one) same
-
 module _ (d : DrivenState) (parts : Parts) (link : LinkState) (j : Journal) (sums : Sums) (peak : ℕ) (is : IsDriven d parts link j sums peak) where
   abbrev flow : Flow ℕ
   flow = flow_by d
@@ -425,7 +423,7 @@ module _ (d : DrivenState) (parts : Parts) (link : LinkState) (j : Journal) (sum
         let over : summary_by parts' ≡ summary flow v = step ∙ ap (step_given flow given) is.stands ∙ sym (summary-given flow given w) in
         let stands' : summary_by parts' ≡ summary flow (world_by (with_given given d)) = over ∙ ap (summary flow) (sym grown-C) in
         let line_same : line ≡ ticket_line flow (answered_now flow ticket w) =
-        sym (some-same (ticket_line flow (answered_now flow ticket w)) line
+        sym (same_Some (ticket_line flow (answered_now flow ticket w)) line
         ((λ i. line_out (option_map (issued_as flow) (sym out i)) (length w.acks))
         ∙ (λ i. line_out (sym is.stands i).out (sym is.stands i).acks) ∙ is_line)) in
         let epoch_same = is_epoch ∙ ap (λ (s : Summary). option_map (λ (program : ℕ). record { program = s.program; at = s.acks; cwnd = s.track.env.cwnd }) given.program) over in

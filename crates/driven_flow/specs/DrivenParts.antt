@@ -5,6 +5,7 @@ use Rattle.ccp_base.specs.FieldReg.{Pair}
 use Rattle.ccp_base.specs.Limits.{most_acks}
 use Rattle.ccp_base.specs.declared.ack.Ack.{Ack}
 use Rattle.ccp_base.specs.declared.arithmetic.FaultKind.{FaultKind}
+use Rattle.ccp_base.specs.RunningEpochs.{reporter, next_epoch}
 use Rattle.portus_core.specs.Epoch.{Outcome, quiet, reported, held, failed, stopped, track_at, with_values}
 use Rattle.portus_core.specs.Reports.{report_of}
 use Rattle.slot_pool.specs.Pool.{free_of}
@@ -17,10 +18,9 @@ use Rattle.flow_core.specs.Bares.{reports_in}
 use Rattle.flow_core.specs.LiveText.{reports_told}
 use Rattle.flow_core.specs.Outbox.{Lies}
 use Rattle.flow_core.specs.Readings.{Flow, env_of}
-use Rattle.flow_core.specs.RunningEpochs.{next_epoch}
 use Rattle.flow_core.specs.States.{some_count}
 use Rattle.flow_core.specs.Summaries.{Summary}
-use Rattle.flow_core.specs.World.{reporter, failure_with, notice_with}
+use Rattle.flow_core.specs.World.{failure_with, notice_with}
 use Rattle.driven_flow.specs.declared.case.DrivenCase.{DrivenCase}
 use Rattle.driven_flow.specs.declared.parts.Parts.{Parts}
 use Rattle.driven_flow.specs.Driven.{unasked, code_in, is_known, initial_window, Given}

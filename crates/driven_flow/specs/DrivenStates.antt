@@ -11,7 +11,6 @@ use Rattle.flow_core.specs.declared.book.EpochLine.{EpochLine}
 use Rattle.flow_core.specs.declared.book.TicketLine.{TicketLine}
 use Rattle.flow_core.specs.declared.letter.Letter.{Letter}
 use Rattle.flow_core.specs.declared.letter.Letter.TheVariants.{A, T, C}
-use Rattle.flow_core.specs.RunningEpochs.{line_of}
 use Rattle.flow_core.specs.Summaries.{summary}
 use Rattle.driven_flow.specs.declared.journal.Journal.{Journal}
 use Rattle.driven_flow.specs.declared.parts.Parts.{Parts}
@@ -19,6 +18,7 @@ use Rattle.driven_flow.specs.declared.state.State.{State}
 use Rattle.driven_flow.specs.declared.state.Opened.{Opened}
 use Rattle.driven_flow.specs.declared.case.DrivenCase.{DrivenCase}
 use Rattle.ccp_base.specs.FieldReg.{Pair}
+use Rattle.flow_core.specs.Books.{line_of}
 use Rattle.driven_flow.specs.Driven.{Given, DrivenState, over_codes, begun, flow_by, world_by, peak_by}
 use Rattle.driven_flow.specs.DrivenParts.{summary_by, IsParts}
 use Rattle.driven_flow.specs.DrivenJournals.{Begins, Records}

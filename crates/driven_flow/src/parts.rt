@@ -19,8 +19,8 @@ use crate::case::DrivenCase;
 use crate::machine_calls::{pop_told, put_report, run};
 use crate::programs::{Programs, code_of};
 use campaign_core::{Row, Sums};
-use ccp_base::{Ack, FaultKind, Fields, NoMemory, Told};
-use flow_core::{Issued, Outbox, RunningEpoch};
+use ccp_base::{Ack, FaultKind, Fields, NoMemory, RunningEpoch, Told};
+use flow_core::{Issued, Outbox};
 use fold_machine::{Acked, Machine, Steps};
 use report_lines::End;
 use std::alloc::Global;
@@ -167,7 +167,8 @@ impl Parts {
         let fields = self.machine.reported();
         let cwnd = self.machine.cwnd();
         let rate = self.machine.rate();
-        let report = self.epoch.report(flow, self.acks, ack, cwnd, rate, &fields);
+        let end = u64::from(self.acks) + 1;
+        let report = self.epoch.report(flow, end, ack.now, cwnd, rate, &fields);
         put_report(&mut self.machine, &mut self.outbox, &report);
     }
 
@@ -177,7 +178,8 @@ impl Parts {
         ensures { Notes flow self.old self.new ack.entry.now (failed (kind, index)) }
     {
         let cwnd = self.machine.cwnd();
-        let notice = self.epoch.notice(flow, self.acks, ack, cwnd, kind, index);
+        let at = u64::from(self.acks);
+        let notice = self.epoch.notice(flow, at, ack.now, cwnd, kind, index);
         self.faults += 1;
         self.outbox.note(notice);
     }
@@ -288,7 +290,7 @@ impl Parts {
         let Ok(()) = self.machine.start(code, values, self.time) else {
             unreachable!()
         };
-        self.epoch = self.epoch.next(program, self.acks);
+        self.epoch = self.epoch.next(program, u64::from(self.acks));
         self.outbox.void();
     }
 

@@ -61,7 +61,7 @@ impl Opened {
     {
         let parts = Parts::open(alloc, case, programs, program, values)?;
         let link = case.open_link(alloc)?;
-        let line = parts.epoch.line(0, parts.machine.cwnd());
+        let line = EpochLine::of(&parts.epoch, 0, parts.machine.cwnd());
         let journal = Journal::open(alloc, line)?;
         Ok(Opened {
             parts,
@@ -209,6 +209,6 @@ fn line_begun(program: Option<u32>, parts: &Parts) -> Option<EpochLine>
 {
     match program {
         None => None,
-        Some(_) => Some(parts.epoch.line(parts.acks, parts.machine.cwnd())),
+        Some(_) => Some(EpochLine::of(&parts.epoch, parts.acks, parts.machine.cwnd())),
     }
 }

@@ -4,8 +4,11 @@ use Rattle.std.specs.List.{AllByRecursion}
 use Rattle.std.proofs.lemmas.Bool.Decides.{nat_tests}
 use Rattle.std.proofs.lemmas.List.{length-set, length-map}
 use Rattle.ccp_base.specs.declared.ack.Ack.{Ack}
+use Rattle.ccp_base.specs.declared.arithmetic.FaultKind.{FaultKind}
 use Rattle.ccp_base.specs.declared.fields.FieldReg.{FieldReg}
 use Rattle.ccp_base.specs.declared.fields.FieldReg.TheVariants as field
+use Rattle.ccp_base.specs.declared.running_epoch.RunningEpoch.{RunningEpoch}
+use Rattle.ccp_base.specs.RunningEpochs.{epoch_after, epochs_in, first_in, notice_at, report_at}
 use Rattle.ccp_base.specs.FieldReg.{Pair, first_bad_pair}
 use Rattle.ccp_base.specs.declared.exchange.Notice.{Notice}
 use Rattle.ccp_base.specs.declared.exchange.Report.{Report}
@@ -33,10 +36,9 @@ use Rattle.fold_machine.specs.declared.acked.Acked.{Acked}
 use Rattle.fold_machine.specs.declared.acked.Acked.TheVariants as acked
 use Rattle.fold_machine.specs.MachineState.{MachineState, Fits}
 use Rattle.fold_machine.specs.Heard.{after_acknowledgement, heard_where, after_made, started_by, updated_by}
-use Rattle.feed_core.specs.declared.flow.Epoch.{Epoch}
 use Rattle.feed_core.specs.declared.flow.Flow.{Flow}
-use Rattle.feed_core.specs.Feed.{FeedState, there, Answer, MessageAnswer, refused, with_flow, fresh_flow, created_at, installed_as, installed_at, next_epoch_number, changed_flow, is_too_wide, changed_with, changed_to, changed_at, running_code, updated_flow, updated_with, updated_on, updated_at, counted_flow, first_after, flow_after, message_about, in_version, acked_on, flow_acked, handled}
-use Rattle.feed_core.specs.FeedHolds.{RunsOn, IsFlow, IsFlowThere, IsAcceptedThere, AreFeedParts, IsFeed, longest_answer, HasShortFrame}
+use Rattle.feed_core.specs.Feed.{FeedState, there, Answer, MessageAnswer, refused, with_flow, fresh_flow, created_at, installed_as, installed_at, changed_flow, is_too_wide, changed_with, changed_to, changed_at, running_code, updated_flow, updated_with, updated_on, updated_at, counted_flow, epoch_heard, flow_after, message_about, in_version, acked_on, flow_acked, handled}
+use Rattle.feed_core.specs.FeedHolds.{RunsCode, RunsOn, IsFlow, IsFlowThere, IsAcceptedThere, AreFeedParts, IsFeed, longest_answer, HasShortFrame}
 
 -- ---- lists of places
 
@@ -123,61 +125,75 @@ fields-few code accepted =
     let few : nat_lt most_fields (length code.reports) ≡ false = refusal_where-none _ _ 0 (none-first _ _ (none-first _ _ (none-first _ _ counts))) in
     grind (arith, nat_tests, few)
 
-module _ (code : Code) (ack : Ack) (n : ℕ) (epoch : Epoch) (flow : Flow) (first : flow.first ≤ flow.count) (count : flow.count < most_messages) (few : AreFew flow.version (length code.reports)) (fit : length code.reports ≤ most_fields) where
+-- ---- the epoch after an acknowledgement
+
+-- its unreported span begins at most at the count
+heard-within : (came : Option Acked) (count : ℕ) (epoch : Option RunningEpoch) → first_in epoch ≤ count → first_in (epoch_heard came (count + 1) epoch) ≤ count + 1
+heard-within None count epoch first = omega (arith, first)
+heard-within (Some acked.Quiet) count epoch first = omega (arith, first)
+heard-within (Some acked.Reported) count None first = omega arith
+heard-within (Some acked.Reported) count (Some epoch) first = omega arith
+heard-within (Some acked.Held) count epoch first = omega (arith, first)
+heard-within (Some (acked.Faulted kind index)) count epoch first = omega (arith, first)
+heard-within (Some acked.Stopped) count epoch first = omega (arith, first)
+
+heard-number : (came : Option Acked) (count : ℕ) (epoch : Option RunningEpoch) → epochs_in (epoch_heard came count epoch) ≡ epochs_in epoch
+heard-number None count epoch = refl
+heard-number (Some acked.Quiet) count epoch = refl
+heard-number (Some acked.Reported) count None = refl
+heard-number (Some acked.Reported) count (Some epoch) = refl
+heard-number (Some acked.Held) count epoch = refl
+heard-number (Some (acked.Faulted kind index)) count epoch = refl
+heard-number (Some acked.Stopped) count epoch = refl
+
+-- its program is the same one
+heard-runs : (came : Option Acked) (count : ℕ) (epoch : Option RunningEpoch) (version : Version) (machine : MachineState) (programs : List (Option Code))
+    → RunsOn epoch version machine (running_code epoch programs) → RunsOn (epoch_heard came count epoch) version machine (running_code (epoch_heard came count epoch) programs)
+heard-runs None count epoch version machine programs runs = runs
+heard-runs (Some acked.Quiet) count epoch version machine programs runs = runs
+heard-runs (Some acked.Reported) count None version machine programs runs = runs
+heard-runs (Some acked.Reported) count (Some epoch) version machine programs runs = runs
+heard-runs (Some acked.Held) count epoch version machine programs runs = runs
+heard-runs (Some (acked.Faulted kind index)) count epoch version machine programs runs = runs
+heard-runs (Some acked.Stopped) count epoch version machine programs runs = runs
+
+module _ (code : Code) (ack : Ack) (n : ℕ) (flow : Flow) (first : first_in flow.epoch ≤ flow.count) (count : flow.count < most_messages) (few : AreFew flow.version (length code.reports)) (fit : length code.reports ≤ most_fields) where
+  report-framed : (epoch : Option RunningEpoch) (cwnd rate : ℕ) (fields : List ℕ) → first_in epoch ≤ flow.count → length fields ≡ length code.reports
+      → HasShortFrame (in_version flow.version (option_map (λ (epoch : RunningEpoch). Measure (report_at epoch n (flow.count + 1) ack.now cwnd rate fields)) epoch))
+  report-framed None cwnd rate fields within sized = tt
+  report-framed (Some epoch) cwnd rate fields within sized = (
+    (short flow.version epoch.first (omega (arith, within, count)), short flow.version (flow.count + 1) (omega (arith, count)), subst (AreFew flow.version) (sym sized) few),
+    report-short flow.version (report_at epoch n (flow.count + 1) ack.now cwnd rate fields) (omega (arith, sized, fit)),
+  )
+
+  notice-framed : (epoch : Option RunningEpoch) (cwnd : ℕ) (kind : FaultKind) (index : ℕ)
+      → HasShortFrame (in_version flow.version (option_map (λ (epoch : RunningEpoch). Fault (notice_at epoch n flow.count ack.now cwnd kind index)) epoch))
+  notice-framed None cwnd kind index = tt
+  notice-framed (Some epoch) cwnd kind index =
+      (short flow.version flow.count (omega (arith, count)), notice-short flow.version (notice_at epoch n flow.count ack.now cwnd kind index))
+
   asked-framed : (asked : Bool) (machine : MachineState) (kept : Kept) (ran : ℕ) → length kept.reports ≡ length code.reports
-      → HasShortFrame (in_version flow.version (message_about (after_made (made_of (steps.answered code asked true kept) ran) machine) ack n epoch flow))
+      → HasShortFrame (in_version flow.version (message_about (after_made (made_of (steps.answered code asked true kept) ran) machine) ack n flow))
   asked-framed false machine kept ran sized = tt
   asked-framed true machine kept ran sized =
       let told : MachineState = (after_made (made_of (steps.answered code true true kept) ran) machine).1 in
-      let report : Report = record {
-        flow = n;
-        program = epoch.program;
-        epoch = epoch.number;
-        first = flow.first;
-        end = flow.count + 1;
-        now = ack.now;
-        cwnd = told.kept.cwnd;
-        rate = told.kept.rate;
-        fields = told.report;
-      } in (
-        (short flow.version flow.first (omega (arith, first, count)), short flow.version (flow.count + 1) (omega (arith, count)), subst (AreFew flow.version) (sym sized) few),
-        report-short flow.version report (omega (arith, sized, fit)),
-      )
+      report-framed flow.epoch told.kept.cwnd told.kept.rate told.report first sized
 
   work-framed : (work : Work) (kept : Kept) (machine : MachineState) → WorkSized (sizes_of code) work
-      → HasShortFrame (in_version flow.version (message_about (after_made (settled code kept true work) machine) ack n epoch flow))
+      → HasShortFrame (in_version flow.version (message_about (after_made (settled code kept true work) machine) ack n flow))
   work-framed (done ran regs) kept machine sized = asked-framed (is_true regs.send) machine regs.kept ran sized.reports
   work-framed (failed kind index ran) kept machine sized =
       let told : MachineState = (after_made (settled code kept true (failed kind index ran)) machine).1 in
-      let notice : Notice = record {
-        flow = n;
-        program = epoch.program;
-        epoch = epoch.number;
-        at = flow.count;
-        kind = kind;
-        index = index;
-        now = ack.now;
-        cwnd = told.kept.cwnd;
-      } in
-      (short flow.version flow.count (omega (arith, count)), notice-short flow.version notice)
+      notice-framed flow.epoch told.kept.cwnd kind index
   work-framed (stuck ran) kept machine sized = absurd sized
 
   heard-framed : (stopped : Bool) (machine : MachineState) → IsAccepted code → Fits machine code
-      → HasShortFrame (in_version flow.version (message_about (heard_where stopped code ack true machine) ack n epoch flow))
+      → HasShortFrame (in_version flow.version (message_about (heard_where stopped code ack true machine) ack n flow))
   heard-framed true machine accepted fits = tt
   heard-framed false machine accepted fits =
       let none = none-next (counts_refusal code or_else events_refusal code.events 0 (length code.instrs)) _ accepted in
       work-framed (events_of code.events 0 code.instrs ack 0 (before_events machine.kept)) machine.kept machine
       (events-sized code.events (sizes_of code) 0 0 code.instrs ack 0 (before_events machine.kept) none (record { reports = fits.kept.reports; controls = fits.kept.controls }))
-
-  -- a report ends the span, which begins at most at the count
-  first-within : (came : Option Acked × MachineState) → first_after came.0 flow ≤ flow.count + 1
-  first-within (None, machine) = omega (arith, first)
-  first-within (Some acked.Quiet, machine) = omega (arith, first)
-  first-within (Some acked.Reported, machine) = omega arith
-  first-within (Some acked.Held, machine) = omega (arith, first)
-  first-within (Some (acked.Faulted kind index), machine) = omega (arith, first)
-  first-within (Some acked.Stopped, machine) = omega (arith, first)
 
 -- ---- a message
 
@@ -237,11 +253,10 @@ module _ (state : FeedState) (is_feed : IsFeed state) where
 
   -- ---- Install
 
-  runs-stay : (epoch : Epoch) (version : Version) (machine : MachineState) (o o' : Option Code) → ((code : Code) → o ≡ Some code → o' ≡ Some code)
-      → RunsOn (Some epoch) version machine (option_map (λ code. (epoch, code)) o) → RunsOn (Some epoch) version machine (option_map (λ code. (epoch, code)) o')
-  runs-stay epoch version machine None o' stays runs = absurd runs
-  runs-stay epoch version machine (Some code) o' stays runs =
-      subst (λ (o : Option Code). RunsOn (Some epoch) version machine (option_map (λ code. (epoch, code)) o)) (sym (stays code refl)) runs
+  runs-stay : (version : Version) (machine : MachineState) (o o' : Option Code) → ((code : Code) → o ≡ Some code → o' ≡ Some code)
+      → RunsCode version machine o → RunsCode version machine o'
+  runs-stay version machine None o' stays runs = absurd runs
+  runs-stay version machine (Some code) o' stays runs = subst (RunsCode version machine) (sym (stays code refl)) runs
 
   flow-stays : (p : ℕ) (code : Code) → there state.programs p ≡ None → (flow : Option Flow)
       → IsFlowThere state.programs state.messages flow → IsFlowThere (slice_set state.programs p (Some code)) (state.messages + 1) flow
@@ -253,10 +268,10 @@ module _ (state : FeedState) (is_feed : IsFeed state) where
     runs = go flow.epoch is.runs;
   }
     where
-      go : (epoch : Option Epoch) → RunsOn epoch flow.version flow.machine (running_code epoch state.programs)
+      go : (epoch : Option RunningEpoch) → RunsOn epoch flow.version flow.machine (running_code epoch state.programs)
           → RunsOn epoch flow.version flow.machine (running_code epoch (slice_set state.programs p (Some code)))
       go None runs = tt
-      go (Some epoch) runs = runs-stay epoch flow.version flow.machine (there state.programs epoch.program) (there (slice_set state.programs p (Some code)) epoch.program)
+      go (Some epoch) runs = runs-stay flow.version flow.machine (there state.programs epoch.program) (there (slice_set state.programs p (Some code)) epoch.program)
           (λ other is. there-stays state.programs p epoch.program (Some code) other free is) runs
 
   kept-as : (version : Version) (n program : ℕ) (code : Code) → there state.programs program ≡ None → (o : Option Refusal) → rejected code ≡ o
@@ -284,15 +299,27 @@ module _ (state : FeedState) (is_feed : IsFeed state) where
   few Two code is = tt
 
   module _ (version : Version) (n program : ℕ) (values : List Pair) (flow : Flow) (is : IsFlow state.programs state.messages flow) where
+    after-within : (epoch : Option RunningEpoch) → (epoch_after epoch program flow.count).first ≤ flow.count
+    after-within None = omega arith
+    after-within (Some epoch) = omega arith
+
+    after-number : (epoch : Option RunningEpoch) → (epoch_after epoch program flow.count).number ≡ epochs_in epoch
+    after-number None = refl
+    after-number (Some epoch) = refl
+
+    after-runs : (epoch : Option RunningEpoch) (machine : MachineState) → RunsCode flow.version machine (there state.programs program)
+        → RunsOn (Some (epoch_after epoch program flow.count)) flow.version machine (running_code (Some (epoch_after epoch program flow.count)) state.programs)
+    after-runs None machine runs = runs
+    after-runs (Some epoch) machine runs = runs
+
     kept-with : (code : Code) → there state.programs program ≡ Some code → is_too_wide flow.version code ≡ false → (o : Option ℕ)
         → IsKept (state.messages + 1) (changed_with o state version n program values flow code)
     kept-with code here fits (Some place) = kept-refused version n NoRegister place
     kept-with code here fits None = kept-flow n (changed_flow code program values flow) None (record {
       counted = omega (arith, is.counted);
-      spanned = omega arith;
-      changed = omega (arith, is.changed);
-      runs = subst (λ (o : Option Code). RunsOn (Some (record { program = program; number = next_epoch_number flow.epoch })) flow.version (started_by code values flow.last flow.machine) (option_map (λ code. (record { program = program; number = next_epoch_number flow.epoch }, code)) o))
-          (sym here) (started-fits code values flow.last flow.machine, few flow.version code fits);
+      spanned = after-within flow.epoch;
+      changed = omega (arith, is.changed, after-number flow.epoch);
+      runs = after-runs flow.epoch (started_by code values flow.last flow.machine) (subst (RunsCode flow.version (started_by code values flow.last flow.machine)) (sym here) (started-fits code values flow.last flow.machine, few flow.version code fits));
     }) tt
 
     kept-narrow : (code : Code) → there state.programs program ≡ Some code → (b : Bool) → is_too_wide flow.version code ≡ b
@@ -314,71 +341,70 @@ module _ (state : FeedState) (is_feed : IsFeed state) where
 
   -- ---- Update and Ack: the program that was started is there
 
-  runs-at : (epoch : Epoch) (program : Option Epoch) (version : Version) (machine : MachineState) (code : Code) → program ≡ Some epoch → there state.programs epoch.program ≡ Some code
-      → Fits machine code → AreFew version (length code.reports) → RunsOn program version machine (running_code program state.programs)
-  runs-at epoch program version machine code e here fits few =
-      subst (λ (p : Option Epoch). RunsOn p version machine (running_code p state.programs)) (sym e)
-      (subst (λ (o : Option Code). RunsOn (Some epoch) version machine (option_map (λ code. (epoch, code)) o)) (sym here) (fits, few))
-
   module _ (n : ℕ) (flow : Flow) (is : IsFlow state.programs state.messages flow) where
-    runs-now : (epoch : Option Epoch) → flow.epoch ≡ epoch → RunsOn epoch flow.version flow.machine (running_code epoch state.programs)
-    runs-now epoch e = subst (λ (p : Option Epoch). RunsOn p flow.version flow.machine (running_code p state.programs)) e is.runs
+    -- with another machine that fits the code
+    runs-with : (machine : MachineState) (code : Code) → running_code flow.epoch state.programs ≡ Some code → Fits machine code → AreFew flow.version (length code.reports)
+        → RunsOn flow.epoch flow.version machine (running_code flow.epoch state.programs)
+    runs-with machine code here fits few = go flow.epoch here where
+      go : (epoch : Option RunningEpoch) → running_code epoch state.programs ≡ Some code → RunsOn epoch flow.version machine (running_code epoch state.programs)
+      go None here = tt
+      go (Some epoch) here = subst (RunsCode flow.version machine) (sym here) (fits, few)
+
+    -- the code that runs was accepted, and the machine fits it
+    runs-now : (code : Code) → running_code flow.epoch state.programs ≡ Some code → IsAccepted code × RunsCode flow.version flow.machine (Some code)
+    runs-now code here = go flow.epoch is.runs here where
+      go : (epoch : Option RunningEpoch) → RunsOn epoch flow.version flow.machine (running_code epoch state.programs) → running_code epoch state.programs ≡ Some code
+          → IsAccepted code × RunsCode flow.version flow.machine (Some code)
+      go None runs here = let bad : ⊥ = cc in absurd bad
+      go (Some epoch) runs here = (accepted-there epoch.program code here, subst (RunsCode flow.version flow.machine) here runs)
 
     module _ (version : Version) (values : List Pair) where
-      kept-written : (epoch : Epoch) (code : Code) → flow.epoch ≡ Some epoch → there state.programs epoch.program ≡ Some code → Fits flow.machine code → AreFew flow.version (length code.reports)
-          → (o : Option ℕ) → IsKept (state.messages + 1) (updated_with o state version n values flow)
-      kept-written epoch code e here fits few (Some place) = kept-refused version n NoRegister place
-      kept-written epoch code e here fits few None = kept-flow n (updated_flow values flow) None (record {
-        counted = omega (arith, is.counted);
-        spanned = is.spanned;
-        changed = omega (arith, is.changed);
-        runs = runs-at epoch flow.epoch flow.version (updated_by values flow.machine) code e here (updated-fits code values flow.machine fits) few;
-      }) tt
+      kept-written : (code : Code) → running_code flow.epoch state.programs ≡ Some code → (o : Option ℕ) → IsKept (state.messages + 1) (updated_with o state version n values flow)
+      kept-written code here (Some place) = kept-refused version n NoRegister place
+      kept-written code here None =
+          let runs = (runs-now code here).1 in
+          kept-flow n (updated_flow values flow) None (record {
+            counted = omega (arith, is.counted);
+            spanned = is.spanned;
+            changed = omega (arith, is.changed);
+            runs = runs-with (updated_by values flow.machine) code here (updated-fits code values flow.machine runs.0) runs.1;
+          }) tt
 
-      kept-updated-code : (epoch : Epoch) → flow.epoch ≡ Some epoch → (o : Option Code) → there state.programs epoch.program ≡ o
-          → RunsOn (Some epoch) flow.version flow.machine (option_map (λ code. (epoch, code)) o)
-          → IsKept (state.messages + 1) (updated_on (option_map (λ code. (epoch, code)) o) state version n values flow)
-      kept-updated-code epoch e None here runs = absurd runs
-      kept-updated-code epoch e (Some code) here runs = kept-written epoch code e here runs.0 runs.1 (first_bad_pair (length code.controls) values)
-
-      kept-updated-on : (epoch : Option Epoch) → flow.epoch ≡ epoch → IsKept (state.messages + 1) (updated_on (running_code epoch state.programs) state version n values flow)
-      kept-updated-on None e = kept-refused version n NoProgram 0
-      kept-updated-on (Some epoch) e = kept-updated-code epoch e (there state.programs epoch.program) refl (runs-now (Some epoch) e)
+      kept-updated-on : (o : Option Code) → running_code flow.epoch state.programs ≡ o → IsKept (state.messages + 1) (updated_on o state version n values flow)
+      kept-updated-on None here = kept-refused version n NoProgram 0
+      kept-updated-on (Some code) here = kept-written code here (first_bad_pair (length code.controls) values)
 
     module _ (small : state.messages < most_messages) (ack : Ack) where
-      kept-acked-code : (epoch : Epoch) → flow.epoch ≡ Some epoch → (o : Option Code) → there state.programs epoch.program ≡ o
-          → RunsOn (Some epoch) flow.version flow.machine (option_map (λ code. (epoch, code)) o)
-          → IsKept (state.messages + 1) (acked_on (option_map (λ code. (epoch, code)) o) state n ack flow)
-      kept-acked-code epoch e None here runs = absurd runs
-      kept-acked-code epoch e (Some code) here runs =
-          let accepted = accepted-there epoch.program code here in
-          let came = after_acknowledgement code ack true flow.machine in
-          let count : flow.count < most_messages = omega (arith, is.counted, small) in
-          kept-flow n (flow_after came ack flow) (in_version flow.version (message_about came ack n epoch flow)) (record {
-            counted = omega (arith, is.counted);
-            spanned = first-within code ack n epoch flow is.spanned count runs.1 (fields-few code accepted) came;
-            changed = omega (arith, is.changed);
-            runs = runs-at epoch flow.epoch flow.version came.1 code e here (heard-fits flow.machine.is_stopped code ack flow.machine accepted runs.0) runs.1;
-          }) (heard-framed code ack n epoch flow is.spanned count runs.1 (fields-few code accepted) flow.machine.is_stopped flow.machine accepted runs.0)
-
-      kept-acked-on : (epoch : Option Epoch) → flow.epoch ≡ epoch → IsKept (state.messages + 1) (acked_on (running_code epoch state.programs) state n ack flow)
-      kept-acked-on None e = kept-flow n (counted_flow ack flow) None (record {
+      kept-acked-on : (o : Option Code) → running_code flow.epoch state.programs ≡ o → IsKept (state.messages + 1) (acked_on o state n ack flow)
+      kept-acked-on None here = kept-flow n (counted_flow ack flow) None (record {
         counted = omega (arith, is.counted);
         spanned = omega (arith, is.spanned);
         changed = omega (arith, is.changed);
         runs = is.runs;
       }) tt
-      kept-acked-on (Some epoch) e = kept-acked-code epoch e (there state.programs epoch.program) refl (runs-now (Some epoch) e)
+      kept-acked-on (Some code) here =
+          let now = runs-now code here in
+          let runs = now.1 in
+          let came = after_acknowledgement code ack true flow.machine in
+          let count : flow.count < most_messages = omega (arith, is.counted, small) in
+          let changed : epochs_in (epoch_heard came.0 (flow.count + 1) flow.epoch) ≡ epochs_in flow.epoch = heard-number came.0 (flow.count + 1) flow.epoch in
+          kept-flow n (flow_after came ack flow) (in_version flow.version (message_about came ack n flow)) (record {
+            counted = omega (arith, is.counted);
+            spanned = heard-within came.0 flow.count flow.epoch is.spanned;
+            changed = omega (arith, is.changed, changed);
+            runs = heard-runs came.0 (flow.count + 1) flow.epoch flow.version came.1 state.programs
+                (runs-with came.1 code here (heard-fits flow.machine.is_stopped code ack flow.machine now.0 runs.0) runs.1);
+          }) (heard-framed code ack n flow is.spanned count runs.1 (fields-few code now.0) flow.machine.is_stopped flow.machine now.0 runs.0)
 
   kept-updated : (version : Version) (n : ℕ) (values : List Pair) (flow : Option Flow) → IsFlowThere state.programs state.messages flow
       → IsKept (state.messages + 1) (updated_at flow state version n values)
   kept-updated version n values None is = kept-refused version n NoFlow 0
-  kept-updated version n values (Some flow) is = kept-updated-on n flow is version values flow.epoch refl
+  kept-updated version n values (Some flow) is = kept-updated-on n flow is version values (running_code flow.epoch state.programs) refl
 
   kept-acked : (version : Version) (n : ℕ) (ack : Ack) → state.messages < most_messages → (flow : Option Flow) → IsFlowThere state.programs state.messages flow
       → IsKept (state.messages + 1) (flow_acked flow state version n ack)
   kept-acked version n ack small None is = kept-refused version n NoFlow 0
-  kept-acked version n ack small (Some flow) is = kept-acked-on n flow is small ack flow.epoch refl
+  kept-acked version n ack small (Some flow) is = kept-acked-on n flow is small ack (running_code flow.epoch state.programs) refl
 
   pub handled-kept : (message : Message) (version : Version) → state.messages < most_messages → IsKept (state.messages + 1) (handled state message version)
   handled-kept (Create n mss cwnd) version small =

@@ -13,7 +13,6 @@ use Rattle.ccp_messages.specs.declared.reason.Reason.{Reason}
 use Rattle.ccp_messages.specs.declared.reason.Reason.TheVariants.{NoFlow, ProgramAbove, NoProgram, NotAccepted}
 use Rattle.ccp_messages.specs.declared.reason.Reason.TheVariants.{NoRegister, TooWide}
 use Rattle.fold_machine.specs.Heard.{after_acknowledgement, updated_by}
-use Rattle.feed_core.specs.declared.flow.Epoch.{Epoch}
 use Rattle.feed_core.specs.declared.flow.Flow.{Flow}
 use Rattle.feed_core.specs.Feed.{FeedState, there, Answer, MessageAnswer, changed_flow, is_too_wide, changed_with, changed_to, changed_at, changed, running_code, updated_with, updated_on, updated_at, updated, counted_flow, flow_after, message_about, in_version, acked_on, flow_acked, answer_to_ack, installed_as, installed_at, installed}
 
@@ -51,11 +50,11 @@ module _ (flows : List (Option Flow)) (programs : List (Option Code)) (messages 
       (λ i. (answer i, put (Some (e i))))
       ∙ sym (ap (λ f. flow_acked f old version n ack) (is_there flows n x lt is ∙ some) ∙ ap (λ c. acked_on c old n ack flow) none)
 
-  pub ack-heard : (ack : Ack) (flow flow' : Flow) (epoch : Epoch) (code : Code) (r : Answer) → x ≡ Some flow → running_code flow.epoch programs ≡ Some (epoch, code)
+  pub ack-heard : (ack : Ack) (flow flow' : Flow) (code : Code) (r : Answer) → x ≡ Some flow → running_code flow.epoch programs ≡ Some code
       → flow' ≡ flow_after (after_acknowledgement code ack true flow.machine) ack flow
-      → r ≡ in_version flow.version (message_about (after_acknowledgement code ack true flow.machine) ack n epoch flow)
+      → r ≡ in_version flow.version (message_about (after_acknowledgement code ack true flow.machine) ack n flow)
       → ◌≡◌ {A = MessageAnswer} (r, put (Some flow')) (answer_to_ack old version n ack)
-  ack-heard ack flow flow' epoch code r some runs e answer =
+  ack-heard ack flow flow' code r some runs e answer =
       (λ i. (answer i, put (Some (e i))))
       ∙ sym (ap (λ f. flow_acked f old version n ack) (is_there flows n x lt is ∙ some) ∙ ap (λ c. acked_on c old n ack flow) runs)
 
@@ -75,17 +74,17 @@ module _ (flows : List (Option Flow)) (programs : List (Option Code)) (messages 
     update-idle r none answer =
         refuses NoProgram 0 (Some flow) r (sym some) answer ∙ sym (update-there ∙ ap (λ c. updated_on c old version n values flow) none)
 
-    pub update-bad : (epoch : Epoch) (code : Code) (flow' : Flow) (place : ℕ) (r : Answer) → running_code flow.epoch programs ≡ Some (epoch, code)
+    pub update-bad : (code : Code) (flow' : Flow) (place : ℕ) (r : Answer) → running_code flow.epoch programs ≡ Some code
         → first_bad_pair (length code.controls) values ≡ Some place → flow' ≡ flow → r ≡ Some (Refused n NoRegister place, version)
         → ◌≡◌ {A = MessageAnswer} (r, put (Some flow')) (updated old version n values)
-    update-bad epoch code flow' place r runs bad e answer =
+    update-bad code flow' place r runs bad e answer =
         refuses NoRegister place (Some flow') r (ap Some e ∙ sym some) answer
         ∙ sym (update-there ∙ ap (λ c. updated_on c old version n values flow) runs ∙ ap (λ b. updated_with b old version n values flow) bad)
 
-    pub update-written : (epoch : Epoch) (code : Code) (flow' : Flow) → running_code flow.epoch programs ≡ Some (epoch, code)
+    pub update-written : (code : Code) (flow' : Flow) → running_code flow.epoch programs ≡ Some code
         → first_bad_pair (length code.controls) values ≡ None → flow' ≡ record flow { machine = updated_by values flow.machine }
         → ◌≡◌ {A = MessageAnswer} (None, put (Some flow')) (updated old version n values)
-    update-written epoch code flow' runs good e =
+    update-written code flow' runs good e =
         ap (λ f. (None, put (Some f))) e
         ∙ sym (update-there ∙ ap (λ c. updated_on c old version n values flow) runs ∙ ap (λ b. updated_with b old version n values flow) good)
 

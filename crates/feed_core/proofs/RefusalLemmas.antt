@@ -1,7 +1,9 @@
 -- Which reason a refused message has, and that each row's message is refused for its reason.
-use Rattle.std.proofs.Common.{◌≡◌, ℕ, ◌+◌, ◌<◌, ◌≤◌, Bool, true, false, cond, nat_lt, Option, Some, None, List, length, ap, sym, refl, subst, ◌∙◌, arith}
-use Rattle.std.proofs.lemmas.Bool.Decides.{nat_tests}
+use Rattle.std.proofs.Common.{◌≡◌, ℕ, ◌+◌, ◌<◌, Bool, true, false, cond, nat_lt, Option, Some, None, option_map, List, length, ap, sym, refl, subst, ◌∙◌}
+use Rattle.std.proofs.lemmas.Bool.{lt-ltb, le-ltb, ltb-true, ltb-false}
 use Rattle.ccp_base.specs.declared.ack.Ack.{Ack}
+use Rattle.ccp_base.specs.declared.running_epoch.RunningEpoch.{RunningEpoch}
+use Rattle.ccp_base.specs.RunningEpochs.{notice_at, report_at}
 use Rattle.ccp_base.specs.FieldReg.{Pair, first_bad_pair}
 use Rattle.ccp_base.specs.Limits.{most_flows, most_kept_programs}
 use Rattle.reg_code.specs.declared.code.Code.{Code}
@@ -17,7 +19,6 @@ use Rattle.fold_machine.specs.declared.acked.Acked.{Acked}
 use Rattle.fold_machine.specs.declared.acked.Acked.TheVariants as acked
 use Rattle.fold_machine.specs.MachineState.{MachineState}
 use Rattle.fold_machine.specs.Heard.{after_acknowledgement}
-use Rattle.feed_core.specs.declared.flow.Epoch.{Epoch}
 use Rattle.feed_core.specs.declared.flow.Flow.{Flow}
 use Rattle.feed_core.specs.Feed.{FeedState, there, Answer, MessageAnswer, refused, created_at, installed_as, installed_at, is_too_wide, changed_with, changed_to, changed_at, running_code, updated_with, updated_on, updated_at, message_about, in_version, acked_on, flow_acked, handled}
 use Rattle.feed_core.specs.Refusals.{IsFlowAt, IsCodeAt, IsFreeAt, FlowAbove, FlowExists, NoFlow, ProgramAbove, ProgramExists, NoProgram, NotAccepted, NoRegister, TooWide, ComesIf, ChangesNothing}
@@ -96,18 +97,6 @@ why-is state message n version r i reason index row e =
       same = refl;
     }
 
-under : (a b : ℕ) → nat_lt a b ≡ true → a < b
-under a b is = grind (arith, nat_tests, is)
-
-above : (a b : ℕ) → nat_lt a b ≡ false → b ≤ a
-above a b is = grind (arith, nat_tests, is)
-
-is-under : (a b : ℕ) → a < b → nat_lt a b ≡ true
-is-under a b is = grind (arith, nat_tests, is)
-
-is-above : (a b : ℕ) → b ≤ a → nat_lt a b ≡ false
-is-above a b is = grind (arith, nat_tests, is)
-
 -- ---- each refusal has the row of its reason
 
 module _ (state : FeedState) (version : Version) (r : Reason) (i : ℕ) where
@@ -120,8 +109,8 @@ module _ (state : FeedState) (version : Version) (r : Reason) (i : ℕ) where
   why-created : (n mss cwnd : ℕ) (b : Bool) (o : Option Flow) → nat_lt n most_flows ≡ b → there state.flows n ≡ o
       → Refuses n (cond b (created_at o state version n cwnd) (refused state version n reasons.FlowAbove 0))
       → Why state (Create n mss cwnd) r i (cond b (created_at o state version n cwnd) (refused state version n reasons.FlowAbove 0)).1
-  why-created n mss cwnd false o lt is e = why-is state (Create n mss cwnd) n version r i reasons.FlowAbove 0 (above n most_flows lt, refl) e
-  why-created n mss cwnd true (Some flow) lt is e = why-is state (Create n mss cwnd) n version r i reasons.FlowExists 0 (under n most_flows lt, flow, is, refl) e
+  why-created n mss cwnd false o lt is e = why-is state (Create n mss cwnd) n version r i reasons.FlowAbove 0 (ltb-false n most_flows lt, refl) e
+  why-created n mss cwnd true (Some flow) lt is e = why-is state (Create n mss cwnd) n version r i reasons.FlowExists 0 (ltb-true n most_flows lt, flow, is, refl) e
   why-created n mss cwnd true None lt is e = none-refused n _ e
 
   module _ (n program : ℕ) (code : Code) where
@@ -141,8 +130,8 @@ module _ (state : FeedState) (version : Version) (r : Reason) (i : ℕ) where
     why-installed : (b : Bool) → nat_lt program most_kept_programs ≡ b
         → Refuses n (cond b (installed_at (there state.programs program) state version n program code) (refused state version n reasons.ProgramAbove program))
         → Why state install r i (cond b (installed_at (there state.programs program) state version n program code) (refused state version n reasons.ProgramAbove program)).1
-    why-installed false lt e = why-is state install n version r i reasons.ProgramAbove program (above program most_kept_programs lt, refl) e
-    why-installed true lt e = why-installed-at (under program most_kept_programs lt) (there state.programs program) refl e
+    why-installed false lt e = why-is state install n version r i reasons.ProgramAbove program (ltb-false program most_kept_programs lt, refl) e
+    why-installed true lt e = why-installed-at (ltb-true program most_kept_programs lt) (there state.programs program) refl e
 
   module _ (n program : ℕ) (values : List Pair) where
     abbrev change : Message
@@ -168,8 +157,8 @@ module _ (state : FeedState) (version : Version) (r : Reason) (i : ℕ) where
     why-changed-number : (flow : Flow) → IsFlowAt state n flow → (b : Bool) → nat_lt program most_kept_programs ≡ b
         → Refuses n (cond b (changed_to (there state.programs program) state version n program values flow) (refused state version n reasons.ProgramAbove program))
         → Why state change r i (cond b (changed_to (there state.programs program) state version n program values flow) (refused state version n reasons.ProgramAbove program)).1
-    why-changed-number flow at false lt e = why-is state change n version r i reasons.ProgramAbove program (flow, at, above program most_kept_programs lt, refl) e
-    why-changed-number flow at true lt e = why-changed-to flow at (under program most_kept_programs lt) (there state.programs program) refl e
+    why-changed-number flow at false lt e = why-is state change n version r i reasons.ProgramAbove program (flow, at, ltb-false program most_kept_programs lt, refl) e
+    why-changed-number flow at true lt e = why-changed-to flow at (ltb-true program most_kept_programs lt) (there state.programs program) refl e
 
     why-changed : (o : Option Flow) → there state.flows n ≡ o
         → Refuses n (changed_at o state version n program values) → Why state change r i (changed_at o state version n program values).1
@@ -180,37 +169,44 @@ module _ (state : FeedState) (version : Version) (r : Reason) (i : ℕ) where
     abbrev update : Message
     update = Update n values
 
-    why-updated-with : (flow : Flow) (epoch : Epoch) (code : Code) → IsFlowAt state n flow → running_code flow.epoch state.programs ≡ Some (epoch, code)
+    why-updated-with : (flow : Flow) (code : Code) → IsFlowAt state n flow → running_code flow.epoch state.programs ≡ Some code
         → (o : Option ℕ) → first_bad_pair (length code.controls) values ≡ o
         → Refuses n (updated_with o state version n values flow) → Why state update r i (updated_with o state version n values flow).1
-    why-updated-with flow epoch code at runs (Some place) is e = why-is state update n version r i reasons.NoRegister place (flow, epoch, code, at, runs, is) e
-    why-updated-with flow epoch code at runs None is e = none-refused n _ e
+    why-updated-with flow code at runs (Some place) is e = why-is state update n version r i reasons.NoRegister place (flow, code, at, runs, is) e
+    why-updated-with flow code at runs None is e = none-refused n _ e
 
-    why-updated-on : (flow : Flow) → IsFlowAt state n flow → (o : Option (Epoch × Code)) → running_code flow.epoch state.programs ≡ o
+    why-updated-on : (flow : Flow) → IsFlowAt state n flow → (o : Option Code) → running_code flow.epoch state.programs ≡ o
         → Refuses n (updated_on o state version n values flow) → Why state update r i (updated_on o state version n values flow).1
     why-updated-on flow at None runs e = why-is state update n version r i reasons.NoProgram 0 (flow, at, runs, refl) e
-    why-updated-on flow at (Some (epoch, code)) runs e = why-updated-with flow epoch code at runs (first_bad_pair (length code.controls) values) refl e
+    why-updated-on flow at (Some code) runs e = why-updated-with flow code at runs (first_bad_pair (length code.controls) values) refl e
 
     why-updated : (o : Option Flow) → there state.flows n ≡ o
         → Refuses n (updated_at o state version n values) → Why state update r i (updated_at o state version n values).1
     why-updated None is e = why-is state update n version r i reasons.NoFlow 0 (is, refl) e
     why-updated (Some flow) is e = why-updated-on flow is (running_code flow.epoch state.programs) refl e
 
-  -- the report of an acknowledgement is no refusal
-  no-report-refuses : (n m : ℕ) (ack : Ack) (epoch : Epoch) (flow : Flow) (W : Type 0) (came : Option Acked × MachineState)
-      → in_version flow.version (message_about came ack m epoch flow) ≡ refusal_of n r i version → W
-  no-report-refuses n m ack epoch flow W (None, machine) e = none-refused n W e
-  no-report-refuses n m ack epoch flow W (Some acked.Quiet, machine) e = none-refused n W e
-  no-report-refuses n m ack epoch flow W (Some acked.Reported, machine) e = let same : false ≡ true = ap is_refusal e in let bad : ⊥ = cc in absurd bad
-  no-report-refuses n m ack epoch flow W (Some acked.Held, machine) e = none-refused n W e
-  no-report-refuses n m ack epoch flow W (Some (acked.Faulted kind index), machine) e = let same : false ≡ true = ap is_refusal e in let bad : ⊥ = cc in absurd bad
-  no-report-refuses n m ack epoch flow W (Some acked.Stopped, machine) e = none-refused n W e
+  -- what an epoch says of an acknowledgement is no refusal
+  says-no-refusal : (n : ℕ) (own : Version) (W : Type 0) (says : RunningEpoch → Message) → ((epoch : RunningEpoch) → is_refused (says epoch) ≡ false)
+      → (epoch : Option RunningEpoch) → in_version own (option_map says epoch) ≡ refusal_of n r i version → W
+  says-no-refusal n own W says none None e = none-refused n W e
+  says-no-refusal n own W says none (Some epoch) e = let same : false ≡ true = sym (none epoch) ∙ ap is_refusal e in let bad : ⊥ = cc in absurd bad
+
+  no-report-refuses : (n m : ℕ) (ack : Ack) (flow : Flow) (W : Type 0) (came : Option Acked × MachineState)
+      → in_version flow.version (message_about came ack m flow) ≡ refusal_of n r i version → W
+  no-report-refuses n m ack flow W (None, machine) e = none-refused n W e
+  no-report-refuses n m ack flow W (Some acked.Quiet, machine) e = none-refused n W e
+  no-report-refuses n m ack flow W (Some acked.Reported, machine) e = says-no-refusal n flow.version W
+      (λ epoch. Measure (report_at epoch m (flow.count + 1) ack.now machine.kept.cwnd machine.kept.rate machine.report)) (λ epoch. refl) flow.epoch e
+  no-report-refuses n m ack flow W (Some acked.Held, machine) e = none-refused n W e
+  no-report-refuses n m ack flow W (Some (acked.Faulted kind index), machine) e = says-no-refusal n flow.version W
+      (λ epoch. Fault (notice_at epoch m flow.count ack.now machine.kept.cwnd kind index)) (λ epoch. refl) flow.epoch e
+  no-report-refuses n m ack flow W (Some acked.Stopped, machine) e = none-refused n W e
 
   module _ (n : ℕ) (ack : Ack) where
-    why-acked-on : (flow : Flow) (o : Option (Epoch × Code))
+    why-acked-on : (flow : Flow) (o : Option Code)
         → Refuses n (acked_on o state n ack flow) → Why state (message.Ack n ack) r i (acked_on o state n ack flow).1
     why-acked-on flow None e = none-refused n _ e
-    why-acked-on flow (Some (epoch, code)) e = no-report-refuses n n ack epoch flow _ (after_acknowledgement code ack true flow.machine) e
+    why-acked-on flow (Some code) e = no-report-refuses n n ack flow _ (after_acknowledgement code ack true flow.machine) e
 
     why-acked : (o : Option Flow) → there state.flows n ≡ o
         → Refuses n (flow_acked o state version n ack) → Why state (message.Ack n ack) r i (flow_acked o state version n ack).1
@@ -241,7 +237,7 @@ module _ (state : FeedState) (version : Version) (i : ℕ) where
 
   gets-above : (message : Message) → FlowAbove state message i → Gets reasons.FlowAbove message
   gets-above (Create n mss cwnd) row =
-      ap (λ (b : Bool). (cond b (created_at (there state.flows n) state version n cwnd) (refused state version n reasons.FlowAbove 0)).0) (is-above n most_flows row.0) ∙ at-index n reasons.FlowAbove 0 row.1
+      ap (λ (b : Bool). (cond b (created_at (there state.flows n) state version n cwnd) (refused state version n reasons.FlowAbove 0)).0) (le-ltb n most_flows row.0) ∙ at-index n reasons.FlowAbove 0 row.1
   gets-above (Measure report) row = absurd row
   gets-above (Install n program code) row = absurd row
   gets-above (Update n values) row = absurd row
@@ -252,7 +248,7 @@ module _ (state : FeedState) (version : Version) (i : ℕ) where
 
   gets-exists : (message : Message) → FlowExists state message i → Gets reasons.FlowExists message
   gets-exists (Create n mss cwnd) row =
-      ap (λ (b : Bool). (cond b (created_at (there state.flows n) state version n cwnd) (refused state version n reasons.FlowAbove 0)).0) (is-under n most_flows row.0)
+      ap (λ (b : Bool). (cond b (created_at (there state.flows n) state version n cwnd) (refused state version n reasons.FlowAbove 0)).0) (lt-ltb n most_flows row.0)
       ∙ ap (λ (o : Option Flow). (created_at o state version n cwnd).0) row.2 ∙ at-index n reasons.FlowExists 0 row.3
   gets-exists (Measure report) row = absurd row
   gets-exists (Install n program code) row = absurd row
@@ -276,7 +272,7 @@ module _ (state : FeedState) (version : Version) (i : ℕ) where
   installs-below : (n program : ℕ) (code : Code) → program < most_kept_programs
       → answer_of (Install n program code) ≡ (installed_at (there state.programs program) state version n program code).0
   installs-below n program code lt =
-      ap (λ (b : Bool). (cond b (installed_at (there state.programs program) state version n program code) (refused state version n reasons.ProgramAbove program)).0) (is-under program most_kept_programs lt)
+      ap (λ (b : Bool). (cond b (installed_at (there state.programs program) state version n program code) (refused state version n reasons.ProgramAbove program)).0) (lt-ltb program most_kept_programs lt)
 
   changes-there : (n program : ℕ) (values : List Pair) (flow : Flow) → IsFlowAt state n flow
       → answer_of (Change n program values) ≡ (changed_at (Some flow) state version n program values).0
@@ -286,7 +282,7 @@ module _ (state : FeedState) (version : Version) (i : ℕ) where
       → answer_of (Change n program values) ≡ (changed_to (there state.programs program) state version n program values flow).0
   changes-below n program values flow at lt =
       changes-there n program values flow at
-      ∙ ap (λ (b : Bool). (cond b (changed_to (there state.programs program) state version n program values flow) (refused state version n reasons.ProgramAbove program)).0) (is-under program most_kept_programs lt)
+      ∙ ap (λ (b : Bool). (cond b (changed_to (there state.programs program) state version n program values flow) (refused state version n reasons.ProgramAbove program)).0) (lt-ltb program most_kept_programs lt)
 
   changes-code : (n program : ℕ) (values : List Pair) (flow : Flow) (code : Code) → IsFlowAt state n flow → IsCodeAt state program code
       → answer_of (Change n program values) ≡ (changed_to (Some code) state version n program values flow).0
@@ -295,11 +291,11 @@ module _ (state : FeedState) (version : Version) (i : ℕ) where
 
   gets-program-above : (message : Message) → ProgramAbove state message i → Gets reasons.ProgramAbove message
   gets-program-above (Install n program code) row =
-      ap (λ (b : Bool). (cond b (installed_at (there state.programs program) state version n program code) (refused state version n reasons.ProgramAbove program)).0) (is-above program most_kept_programs row.0)
+      ap (λ (b : Bool). (cond b (installed_at (there state.programs program) state version n program code) (refused state version n reasons.ProgramAbove program)).0) (le-ltb program most_kept_programs row.0)
       ∙ at-index n reasons.ProgramAbove program row.1
   gets-program-above (Change n program values) row =
       changes-there n program values row.0 row.1
-      ∙ ap (λ (b : Bool). (cond b (changed_to (there state.programs program) state version n program values row.0) (refused state version n reasons.ProgramAbove program)).0) (is-above program most_kept_programs row.2)
+      ∙ ap (λ (b : Bool). (cond b (changed_to (there state.programs program) state version n program values row.0) (refused state version n reasons.ProgramAbove program)).0) (le-ltb program most_kept_programs row.2)
       ∙ at-index n reasons.ProgramAbove program row.3
   gets-program-above (Create n mss cwnd) row = absurd row
   gets-program-above (Measure report) row = absurd row
@@ -324,7 +320,7 @@ module _ (state : FeedState) (version : Version) (i : ℕ) where
       changes-below n program values row.0 row.1 row.2.0 ∙ ap (λ (o : Option Code). (changed_to o state version n program values row.0).0) row.2.1 ∙ at-index n reasons.NoProgram program row.3
   gets-no-program (Update n values) row =
       ap (λ (o : Option Flow). (updated_at o state version n values).0) row.1
-      ∙ ap (λ (o : Option (Epoch × Code)). (updated_on o state version n values row.0).0) row.2 ∙ at-index n reasons.NoProgram 0 row.3
+      ∙ ap (λ (o : Option Code). (updated_on o state version n values row.0).0) row.2 ∙ at-index n reasons.NoProgram 0 row.3
   gets-no-program (Create n mss cwnd) row = absurd row
   gets-no-program (Measure report) row = absurd row
   gets-no-program (Install n program code) row = absurd row
@@ -353,10 +349,9 @@ module _ (state : FeedState) (version : Version) (i : ℕ) where
       ∙ ap (λ (o : Option ℕ). (changed_with o state version n program values flow code).0) row.5
   gets-no-register (Update n values) row =
       let flow : Flow = row.0 in
-      let code : Code = row.2 in
-      ap (λ (o : Option Flow). (updated_at o state version n values).0) row.3
-      ∙ ap (λ (o : Option (Epoch × Code)). (updated_on o state version n values flow).0) row.4
-      ∙ ap (λ (o : Option ℕ). (updated_with o state version n values flow).0) row.5
+      ap (λ (o : Option Flow). (updated_at o state version n values).0) row.2
+      ∙ ap (λ (o : Option Code). (updated_on o state version n values flow).0) row.3
+      ∙ ap (λ (o : Option ℕ). (updated_with o state version n values flow).0) row.4
   gets-no-register (Create n mss cwnd) row = absurd row
   gets-no-register (Measure report) row = absurd row
   gets-no-register (Install n program code) row = absurd row

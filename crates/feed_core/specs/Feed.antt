@@ -2,8 +2,10 @@
 use Rattle.std.specs.Prelude.{◌≡◌, ℕ, ◌+◌, ◌<◌, nat_lt, Bool, true, false, if◌then◌else◌}
 use Rattle.std.specs.Prelude.{Option, Some, None, option_map, unwrap_or, List, length, slice_get, slice_set, replicate}
 use Rattle.ccp_base.specs.declared.ack.Ack.{Ack}
+use Rattle.ccp_base.specs.declared.running_epoch.RunningEpoch.{RunningEpoch}
 use Rattle.ccp_base.specs.FieldReg.{Pair, first_bad_pair}
 use Rattle.ccp_base.specs.Limits.{most_flows, most_kept_programs, most_short_fields}
+use Rattle.ccp_base.specs.RunningEpochs.{epoch_after, notice_at, report_at, reported_epoch}
 use Rattle.reg_code.specs.declared.code.Code.{Code}
 use Rattle.reg_code.specs.AcceptedCode.{Refusal, rejected}
 use Rattle.reply_frames.specs.declared.outline.Version.{Version}
@@ -20,7 +22,6 @@ use Rattle.fold_machine.specs.declared.acked.Acked.{Acked}
 use Rattle.fold_machine.specs.declared.acked.Acked.TheVariants as acked
 use Rattle.fold_machine.specs.MachineState.{MachineState, fresh_machine}
 use Rattle.fold_machine.specs.Heard.{after_acknowledgement, started_by, updated_by}
-use Rattle.feed_core.specs.declared.flow.Epoch.{Epoch}
 use Rattle.feed_core.specs.declared.flow.Flow.{Flow}
 
 -- the flows and the programs by number, None for each that doesn't exist, and how many messages there were
@@ -59,7 +60,6 @@ fresh_flow version cwnd = record {
   version = version;
   machine = fresh_machine cwnd 0 0;
   epoch = None;
-  first = 0;
   count = 0;
   last = 0;
 }
@@ -91,15 +91,10 @@ installed state version n program code =
 
 -- ---- Change: the program starts with the values; the first change of a flow is its epoch 0
 
-abbrev pub next_epoch_number : Option Epoch → ℕ
-next_epoch_number None = 0
-next_epoch_number (Some epoch) = epoch.number + 1
-
 abbrev pub changed_flow : Code → ℕ → List Pair → Flow → Flow
 changed_flow code program values flow = record flow {
   machine = started_by code values flow.last flow.machine;
-  epoch = Some (record { program = program; number = next_epoch_number flow.epoch });
-  first = flow.count;
+  epoch = Some (epoch_after flow.epoch program flow.count);
 }
 
 -- a report of the program has no frame in the version
@@ -131,9 +126,9 @@ changed state version n program values = changed_at (there state.flows n) state 
 -- ---- Update: values for the program that was started; a stopped one stays stopped
 
 -- the code that a flow runs
-abbrev pub running_code : Option Epoch → List (Option Code) → Option (Epoch × Code)
+abbrev pub running_code : Option RunningEpoch → List (Option Code) → Option Code
 running_code None programs = None
-running_code (Some epoch) programs = option_map (λ code. (epoch, code)) (there programs epoch.program)
+running_code (Some epoch) programs = there programs epoch.program
 
 abbrev pub updated_flow : List Pair → Flow → Flow
 updated_flow values flow = record flow { machine = updated_by values flow.machine }
@@ -142,9 +137,9 @@ abbrev pub updated_with : Option ℕ → FeedState → Version → ℕ → List 
 updated_with (Some place) state version n values flow = refused state version n NoRegister place
 updated_with None state version n values flow = (None, with_flow state n (updated_flow values flow))
 
-abbrev pub updated_on : Option (Epoch × Code) → FeedState → Version → ℕ → List Pair → Flow → MessageAnswer
+abbrev pub updated_on : Option Code → FeedState → Version → ℕ → List Pair → Flow → MessageAnswer
 updated_on None state version n values flow = refused state version n NoProgram 0
-updated_on (Some (epoch, code)) state version n values flow =
+updated_on (Some code) state version n values flow =
     updated_with (first_bad_pair (length code.controls) values) state version n values flow
 
 abbrev pub updated_at : Option Flow → FeedState → Version → ℕ → List Pair → MessageAnswer
@@ -160,52 +155,35 @@ updated state version n values = updated_at (there state.flows n) state version 
 abbrev pub counted_flow : Ack → Flow → Flow
 counted_flow ack flow = record flow { count = flow.count + 1; last = ack.now }
 
--- a report ends the span that it reports
-abbrev pub first_after : Option Acked → Flow → ℕ
-first_after (Some acked.Reported) flow = flow.count + 1
-first_after _ flow = flow.first
+-- the epoch after an acknowledgement, with which there are `count`: a report ends the span that it reports
+abbrev pub epoch_heard : Option Acked → ℕ → Option RunningEpoch → Option RunningEpoch
+epoch_heard (Some acked.Reported) count epoch = option_map (reported_epoch count) epoch
+epoch_heard _ count epoch = epoch
 
 abbrev pub flow_after : Option Acked × MachineState → Ack → Flow → Flow
 flow_after (came, machine) ack flow = record flow {
   machine = machine;
-  first = first_after came flow;
+  epoch = epoch_heard came (flow.count + 1) flow.epoch;
   count = flow.count + 1;
   last = ack.now;
 }
 
--- the message about an acknowledgement: a report, or a fault
-abbrev pub message_about : Option Acked × MachineState → Ack → ℕ → Epoch → Flow → Option Message
-message_about (Some acked.Reported, machine) ack n epoch flow = Some (Measure (record {
-  flow = n;
-  program = epoch.program;
-  epoch = epoch.number;
-  first = flow.first;
-  end = flow.count + 1;
-  now = ack.now;
-  cwnd = machine.kept.cwnd;
-  rate = machine.kept.rate;
-  fields = machine.report;
-}))
-message_about (Some (acked.Faulted kind index), machine) ack n epoch flow = Some (Fault (record {
-  flow = n;
-  program = epoch.program;
-  epoch = epoch.number;
-  at = flow.count;
-  kind = kind;
-  index = index;
-  now = ack.now;
-  cwnd = machine.kept.cwnd;
-}))
-message_about _ ack n epoch flow = None
+-- the message about an acknowledgement of the epoch that runs: a report, or a fault
+abbrev pub message_about : Option Acked × MachineState → Ack → ℕ → Flow → Option Message
+message_about (Some acked.Reported, machine) ack n flow = option_map (λ epoch. Measure
+    (report_at epoch n (flow.count + 1) ack.now machine.kept.cwnd machine.kept.rate machine.report)) flow.epoch
+message_about (Some (acked.Faulted kind index), machine) ack n flow = option_map (λ epoch. Fault
+    (notice_at epoch n flow.count ack.now machine.kept.cwnd kind index)) flow.epoch
+message_about _ ack n flow = None
 
 abbrev pub in_version : Version → Option Message → Answer
 in_version version answer = option_map (λ message. (message, version)) answer
 
-abbrev pub acked_on : Option (Epoch × Code) → FeedState → ℕ → Ack → Flow → MessageAnswer
+abbrev pub acked_on : Option Code → FeedState → ℕ → Ack → Flow → MessageAnswer
 acked_on None state n ack flow = (None, with_flow state n (counted_flow ack flow))
-acked_on (Some (epoch, code)) state n ack flow =
+acked_on (Some code) state n ack flow =
     let came = after_acknowledgement code ack true flow.machine in
-    (in_version flow.version (message_about came ack n epoch flow), with_flow state n (flow_after came ack flow))
+    (in_version flow.version (message_about came ack n flow), with_flow state n (flow_after came ack flow))
 
 abbrev pub flow_acked : Option Flow → FeedState → Version → ℕ → Ack → MessageAnswer
 flow_acked None state version n ack = refused state version n NoFlow 0

@@ -1,6 +1,8 @@
 -- What holds of a feed at all times, as its type's invariant says.
 use Rattle.std.specs.Prelude.{◌≡◌, ℕ, ◌+◌, ◌*◌, ◌≤◌, Option, Some, None, option_map, List, length, map}
 use Rattle.std.specs.List.{AllByRecursion}
+use Rattle.ccp_base.specs.declared.running_epoch.RunningEpoch.{RunningEpoch}
+use Rattle.ccp_base.specs.RunningEpochs.{epochs_in, first_in}
 use Rattle.reg_code.specs.declared.code.Code.{Code}
 use Rattle.reg_code.specs.declared.checked.Checked.{Checked}
 use Rattle.reg_code.specs.AcceptedCode.{IsAccepted}
@@ -8,10 +10,9 @@ use Rattle.reply_frames.specs.declared.outline.Version.{Version}
 use Rattle.ccp_messages.specs.Messages.{AreFew, Meets, frame_bytes}
 use Rattle.fold_machine.specs.MachineState.{MachineState, Fits}
 use Rattle.ccp_base.specs.Limits.{most_fields, most_flows, most_kept_programs}
-use Rattle.feed_core.specs.declared.flow.Epoch.{Epoch}
 use Rattle.feed_core.specs.declared.flow.Flow.{Flow}
 use Rattle.feed_core.specs.declared.tables.Tables.{Tables}
-use Rattle.feed_core.specs.Feed.{FeedState, Answer, next_epoch_number, running_code}
+use Rattle.feed_core.specs.Feed.{FeedState, Answer, running_code}
 
 -- the code that was accepted
 abbrev pub code_in : Option Checked → Option Code
@@ -28,17 +29,21 @@ feed_state tables = record {
   messages = tables.messages;
 }
 
--- the flow's machine runs the code, whose reports have frames of the flow's version
-abbrev pub RunsOn : Option Epoch → Version → MachineState → Option (Epoch × Code) → Type 0
+-- the machine runs the code, whose reports have frames of the version
+abbrev pub RunsCode : Version → MachineState → Option Code → Type 0
+RunsCode version machine None = ⊥
+RunsCode version machine (Some code) = Fits machine code × AreFew version (length code.reports)
+
+-- a flow's machine runs the code of its epoch, if it has one
+abbrev pub RunsOn : Option RunningEpoch → Version → MachineState → Option Code → Type 0
 RunsOn None version machine running = Unit {0}
-RunsOn (Some epoch) version machine None = ⊥
-RunsOn (Some epoch) version machine (Some (same, code)) = Fits machine code × AreFew version (length code.reports)
+RunsOn (Some epoch) version machine running = RunsCode version machine running
 
 -- what holds of a flow after `messages` messages
 pub record IsFlow (programs : List (Option Code)) (messages : ℕ) (flow : Flow) : Type 0 where
   pub counted : flow.count ≤ messages
-  pub spanned : flow.first ≤ flow.count
-  pub changed : next_epoch_number flow.epoch ≤ messages
+  pub spanned : first_in flow.epoch ≤ flow.count
+  pub changed : epochs_in flow.epoch ≤ messages
   pub runs : RunsOn flow.epoch flow.version flow.machine (running_code flow.epoch programs)
 
 abbrev pub IsFlowThere : List (Option Code) → ℕ → Option Flow → Type 0

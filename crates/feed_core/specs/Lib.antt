@@ -12,6 +12,7 @@ pub mod Rests
 pub mod Refusals
 pub mod FrameLaws
 -- those that only private contracts, invariants and proofs cite
+pub mod AckFrames
 pub mod FeedStops
 pub mod FeedTurns
 pub mod FeedLast

@@ -10,7 +10,6 @@ use Rattle.ccp_messages.specs.declared.message.Message.TheVariants.{Create, Inst
 use Rattle.ccp_messages.specs.declared.message.Message.TheVariants as message
 use Rattle.ccp_messages.specs.declared.reason.Reason.{Reason}
 use Rattle.ccp_messages.specs.Messages.{message_flow}
-use Rattle.feed_core.specs.declared.flow.Epoch.{Epoch}
 use Rattle.feed_core.specs.declared.flow.Flow.{Flow}
 use Rattle.feed_core.specs.Feed.{FeedState, there, is_too_wide, running_code, answer_message}
 
@@ -81,8 +80,7 @@ NoRegister state (Change n program values) index =
     (flow : Flow) × (code : Code) × IsFlowAt state n flow × IsCodeAt state program code
     × (is_too_wide flow.version code ≡ false) × (first_bad_pair (length code.controls) values ≡ Some index)
 NoRegister state (Update n values) index =
-    (flow : Flow) × (epoch : Epoch) × (code : Code) × IsFlowAt state n flow
-    × (running_code flow.epoch state.programs ≡ Some (epoch, code))
+    (flow : Flow) × (code : Code) × IsFlowAt state n flow × (running_code flow.epoch state.programs ≡ Some code)
     × (first_bad_pair (length code.controls) values ≡ Some index)
 NoRegister state _ index = ⊥
 

@@ -1,6 +1,6 @@
 //! Answers one frame of an input and writes the answer.
 
-ghost use Rattle.std.specs.Prelude.{◌≡◌, ◌+◌, ◌<◌, ◌≤◌, length, OnOk, IfErr, Err};
+ghost use Rattle.std.specs.Prelude.{◌≡◌, ◌+◌, ◌<◌, ◌≤◌, length, None, OnOk, IfErr, Err};
 ghost use Rattle.ccp_base.specs.Outside.{Rose, Appends, AppendsPrefix, no_memory};
 ghost use Rattle.feed_core.specs.FeedHolds.{longest_answer, HasShortFrame};
 ghost use Rattle.ccp_messages.specs.Messages.{Meets, frame_bytes};
@@ -69,13 +69,18 @@ pub fn answer<A: Answerer, D: Duplex>(
     }
 }
 
-/// Answers an acknowledgement, and writes the answer, if there is one, and hands it on.
+// A new `None` clears a kilobyte, and most acknowledgements have no answer: so the caller keeps one for all frames.
+/// Answers an acknowledgement, and writes the answer, if there is one, and hands it on. The answer is made in `answer`,
+/// which is `None` before and afterwards.
 pub fn answer_ack<A: Answerer, D: Duplex>(
     answerer: &mut A,
     frame: &AckFrame,
+    answer: &mut Option<(Message, Version)>,
     duplex: &mut D,
 ) -> Result<(), Unanswered>
     requires room { 0 < A.room answerer.old }
+    requires none { answer.old ≡ None }
+    ensures none { answer.new ≡ None }
     ensures state { OnOk result (answerer.new
         ≡ (A.answer_of answerer.old (Message.Ack frame.now.flow frame.now.ack) frame.now.version).1) }
     ensures one { OnOk result (A.room answerer.old ≤ A.room answerer.new + 1) }
@@ -94,11 +99,19 @@ pub fn answer_ack<A: Answerer, D: Duplex>(
         (answer_to A.answer_of answerer.old (Message.Ack frame.now.flow frame.now.ack) frame.now.version)) }
     ensures failed { IfErr result (λ why. why ≡ Unanswered.Write) }
 {
-    let mut answer = None;
-    answerer.acknowledge(frame.version, frame.flow, &frame.ack, &mut answer);
-    let done = write_answer(duplex, &answer);
-    drop(answer);
+    answerer.acknowledge(frame.version, frame.flow, &frame.ack, answer);
+    let done = write_answer(duplex, answer);
+    clear(answer);
     done
+}
+
+/// Makes an answer `None`.
+fn clear(answer: &mut Option<(Message, Version)>)
+    ensures { answer.new ≡ None }
+{
+    if answer.is_some() {
+        *answer = None;
+    }
 }
 
 /// Writes the frame of an answer, if there is one, and hands it on.

@@ -77,8 +77,9 @@ pub fn answer_from<A: Answerer, D: Duplex>(
         (D.is_finished duplex.new) answerer.new result }
 {
     let mut place = eaten;
+    let mut answer = None;
     loop {
-        match next_frame(alloc, answerer, rest.as_slice(), duplex) {
+        match next_frame(alloc, answerer, rest.as_slice(), &mut answer, duplex) {
             Turn::Answered(used) => {
                 rest.drop_front(used);
                 place += used;

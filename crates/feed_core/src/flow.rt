@@ -4,11 +4,11 @@ ghost use Rattle.std.specs.Prelude.{◌≡◌, ◌+◌, ◌<◌, ◌^◌, true, 
 ghost use Rattle.fold_machine.specs.MachineState.{Fits};
 ghost use Rattle.fold_machine.specs.Heard.{after_acknowledgement};
 ghost use Rattle.ccp_base.specs.FieldReg.{first_bad_pair};
-ghost use Rattle.feed_core.specs.Feed.{fresh_flow, next_epoch_number, changed_flow, updated_flow};
-ghost use Rattle.feed_core.specs.Feed.{in_version};
-ghost use Rattle.feed_core.specs.Feed.{counted_flow, flow_after, message_about};
+ghost use Rattle.ccp_base.specs.RunningEpochs.{epochs_in};
+ghost use Rattle.feed_core.specs.Feed.{fresh_flow, changed_flow, updated_flow, counted_flow, flow_after};
+ghost use Rattle.feed_core.specs.Feed.{epoch_heard, in_version, message_about};
 
-use ccp_base::{Ack, Fields, NoMemory, Notice, Report};
+use ccp_base::{Ack, Fields, NoMemory, RunningEpoch};
 use ccp_messages::Message;
 use fold_machine::{Acked, BadRegister, Machine, Steps};
 use reg_code::Checked;
@@ -17,24 +17,14 @@ use std::alloc::Global;
 use std::marker::Brand;
 use std::sync::ledger::{Blank, Ledger};
 
-/// A program that was started on a flow.
-#[derive(Clone, Copy)]
-pub struct Epoch {
-    pub program: u32,
-    /// How many changes of program the flow had before.
-    pub number: u32,
-}
-
 /// A flow: what a Create makes, and what later frames of its number change.
 #[derive(Drop)]
 pub struct Flow {
     /// The version of the Create.
     pub version: Version,
     pub machine: Machine,
-    /// The program that was started, if one was.
-    pub epoch: Option<Epoch>,
-    /// How many acknowledgements came before the unreported span.
-    pub first: u64,
+    /// The epoch that runs; None before the first change.
+    pub epoch: Option<RunningEpoch>,
     /// How many acknowledgements there were.
     pub count: u64,
     /// The time of the last one in microseconds, 0 before the first.
@@ -50,7 +40,6 @@ impl Flow {
             version,
             machine: Machine::new(alloc, cwnd, 0)?,
             epoch: None,
-            first: 0,
             count: 0,
             last: 0,
         })
@@ -63,17 +52,15 @@ impl Flow {
         code: &Checked,
         values: &Fields,
     ) -> Result<(), BadRegister>
-        requires { next_epoch_number self.old.epoch < 2 ^ 32 }
+        requires { epochs_in self.old.epoch < 2 ^ 32 }
         ensures ok { IsOk result ↔ (first_bad_pair (length code.now.code.controls) values.now ≡ None) }
         ensures refused { IfErr result (λ bad. first_bad_pair (length code.now.code.controls) values.now ≡ Some bad.0) }
         ensures changed { OnOk result (self.new ≡ changed_flow code.now.code program values.now self.old) }
         ensures fits { OnOk result (Fits self.new.machine code.now.code) }
         ensures unchanged { OnErr result (self.new ≡ self.old) }
     {
-        let number = next_epoch_number(self.epoch);
         self.machine.start(code, values, self.last)?;
-        self.epoch = Some(Epoch { program, number });
-        self.first = self.count;
+        self.epoch = Some(RunningEpoch::after(self.epoch, program, self.count));
         Ok(())
     }
 
@@ -102,7 +89,6 @@ impl Flow {
     pub fn ack(
         &mut self,
         number: u32,
-        epoch: Epoch,
         code: &Checked,
         ack: &Ack,
         version: Version,
@@ -116,35 +102,34 @@ impl Flow {
             ack.entry.now self.old }
         ensures message { answer.new ≡ in_version version
             (message_about (after_acknowledgement code.now.code ack.entry.now true self.old.machine)
-            ack.entry.now number epoch self.old) }
+            ack.entry.now number self.old) }
         ensures fits { Fits self.new.machine code.now.code }
     {
         let acked = run::<Brand>(&mut self.machine, code, ack, Blank::new(1));
-        self.tell(number, epoch, ack, acked, version, answer);
+        self.tell(number, ack, acked, version, answer);
         self.pass(ack);
-        if acked == Acked::Reported {
-            self.first = self.count;
-        }
     }
 
-    /// Puts the message about an acknowledgement that was run and isn't counted yet, if there is one, into `answer`.
+    /// Puts the message about an acknowledgement that was run and isn't counted yet, if there is one, into `answer`. A
+    /// report ends its span.
     fn tell(
-        &self,
+        &mut self,
         number: u32,
-        epoch: Epoch,
         ack: &Ack,
         acked: Acked,
         version: Version,
         answer: &mut Option<(Message, Version)>,
     )
-        requires count { self.now.count + 1 < 2 ^ 64 }
+        requires count { self.old.count + 1 < 2 ^ 64 }
         requires none { answer.old ≡ None }
-        ensures { answer.new
-            ≡ in_version version (message_about (Some acked, self.now.machine) ack.entry.now number epoch self.now) }
+        ensures message { answer.new
+            ≡ in_version version (message_about (Some acked, self.old.machine) ack.entry.now number self.old) }
+        ensures epoch { self.new
+            ≡ record self.old { epoch = epoch_heard (Some acked) (self.old.count + 1) self.old.epoch } }
     {
         match acked {
             Acked::Reported | Acked::Faulted(_, _) => {
-                self.put_message(number, epoch, ack, acked, version, answer)
+                self.put_message(number, ack, acked, version, answer)
             }
             Acked::Quiet | Acked::Held | Acked::Stopped => {}
         }
@@ -154,48 +139,44 @@ impl Flow {
     /// Puts the message about an acknowledgement, if there is one, into `answer`, with this version.
     #[inline(never)]
     fn put_message(
-        &self,
+        &mut self,
         number: u32,
-        epoch: Epoch,
         ack: &Ack,
         acked: Acked,
         version: Version,
         answer: &mut Option<(Message, Version)>,
     )
-        requires { self.now.count + 1 < 2 ^ 64 }
-        ensures { answer.new
-            ≡ in_version version (message_about (Some acked, self.now.machine) ack.entry.now number epoch self.now) }
+        requires { self.old.count + 1 < 2 ^ 64 }
+        ensures message { answer.new
+            ≡ in_version version (message_about (Some acked, self.old.machine) ack.entry.now number self.old) }
+        ensures epoch { self.new
+            ≡ record self.old { epoch = epoch_heard (Some acked) (self.old.count + 1) self.old.epoch } }
     {
-        *answer = in_version(version, self.message_about(number, epoch, ack, acked));
+        *answer = in_version(version, self.message_about(number, ack, acked));
     }
 
     /// The message about an acknowledgement that was run and isn't counted yet.
-    fn message_about(&self, number: u32, epoch: Epoch, ack: &Ack, acked: Acked) -> Option<Message>
-        requires { self.now.count + 1 < 2 ^ 64 }
-        ensures { result ≡ message_about (Some acked, self.now.machine) ack.entry.now number epoch self.now }
+    fn message_about(&mut self, number: u32, ack: &Ack, acked: Acked) -> Option<Message>
+        requires { self.old.count + 1 < 2 ^ 64 }
+        ensures message { result
+            ≡ message_about (Some acked, self.old.machine) ack.entry.now number self.old }
+        ensures epoch { self.new
+            ≡ record self.old { epoch = epoch_heard (Some acked) (self.old.count + 1) self.old.epoch } }
     {
+        let cwnd = self.machine.cwnd();
         match acked {
-            Acked::Reported => Some(Message::Measure(Report {
-                flow: number,
-                program: epoch.program,
-                epoch: epoch.number,
-                first: self.first,
-                end: self.count + 1,
-                now: ack.now,
-                cwnd: self.machine.cwnd(),
-                rate: self.machine.rate(),
-                fields: self.machine.reported(),
-            })),
-            Acked::Faulted(kind, index) => Some(Message::Fault(Notice {
-                flow: number,
-                program: epoch.program,
-                epoch: epoch.number,
-                at: self.count,
-                kind,
-                index,
-                now: ack.now,
-                cwnd: self.machine.cwnd(),
-            })),
+            Acked::Reported => {
+                let rate = self.machine.rate();
+                let fields = self.machine.reported();
+                let epoch = self.epoch.as_mut()?;
+                let report = epoch.report(number, self.count + 1, ack.now, cwnd, rate, &fields);
+                Some(Message::Measure(report))
+            }
+            Acked::Faulted(kind, index) => {
+                let epoch = self.epoch.as_ref()?;
+                let notice = epoch.notice(number, self.count, ack.now, cwnd, kind, index);
+                Some(Message::Fault(notice))
+            }
             Acked::Quiet | Acked::Held | Acked::Stopped => None,
         }
     }
@@ -208,17 +189,6 @@ fn in_version(version: Version, answer: Option<Message>) -> Option<(Message, Ver
     match answer {
         None => None,
         Some(message) => Some((message, version)),
-    }
-}
-
-/// The number of the epoch after this one.
-fn next_epoch_number(epoch: Option<Epoch>) -> u32
-    requires { next_epoch_number epoch < 2 ^ 32 }
-    ensures { result ≡ next_epoch_number epoch }
-{
-    match epoch {
-        None => 0,
-        Some(epoch) => epoch.number + 1,
     }
 }
 

@@ -21,7 +21,7 @@ pub use answering::{Unanswered, write_answer};
 pub use duplex::{Duplex, Pair, hand_over};
 pub use ending::FeedEnd;
 pub use feed::Feed;
-pub use flow::{Epoch, Flow};
+pub use flow::Flow;
 pub use frame_laws::frames_law;
 pub use laws::refusals_law;
 pub use piece::Piece;

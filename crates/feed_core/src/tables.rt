@@ -9,8 +9,8 @@ ghost use Rattle.feed_core.specs.Feed.{running_code, updated, answer_to_ack, han
 ghost use Rattle.feed_core.specs.Feed.{answer_message, TakesMemory};
 ghost use Rattle.feed_core.specs.FeedHolds.{feed_state, codes_in, AreFeedParts, IsFeed, HasShortFrame};
 
-use crate::flow::{Epoch, Flow};
-use ccp_base::{Ack, Fields, NoMemory};
+use crate::flow::Flow;
+use ccp_base::{Ack, Fields, NoMemory, RunningEpoch};
 use ccp_messages::{Message, Reason};
 use code_verifier::verify;
 use fold_machine::BadRegister;
@@ -56,13 +56,11 @@ fn program_at(programs: &[Option<Checked>], number: u32) -> Option<&Checked>
     }
 }
 
-/// The program that a flow runs, with its epoch.
-fn code_of(epoch: Option<Epoch>, programs: &[Option<Checked>]) -> Option<(Epoch, &Checked)>
-    ensures { option_map (λ pair. (pair.0, pair.1.now.code)) result ≡ running_code epoch (codes_in programs.now) }
+/// The program that a flow runs.
+fn code_of(epoch: Option<RunningEpoch>, programs: &[Option<Checked>]) -> Option<&Checked>
+    ensures { option_map (λ c. c.now.code) result ≡ running_code epoch (codes_in programs.now) }
 {
-    let epoch = epoch?;
-    let checked = program_at(programs, epoch.program)?;
-    Some((epoch, checked))
+    program_at(programs, epoch?.program)
 }
 
 /// Whether a report of the code has no frame in the version.
@@ -278,7 +276,7 @@ impl Tables {
         let Some(flow) = &mut self.flows[at] else {
             return refusal(version, n, Reason::NoFlow, 0);
         };
-        let Some((_, code)) = code_of(flow.epoch, self.programs.as_slice()) else {
+        let Some(code) = code_of(flow.epoch, self.programs.as_slice()) else {
             return refusal(version, n, Reason::NoProgram, 0);
         };
         match flow.update(code, values) {
@@ -305,12 +303,12 @@ impl Tables {
             put_refusal(version, n, Reason::NoFlow, 0, answer);
             return;
         };
-        let Some((epoch, code)) = code_of(flow.epoch, self.programs.as_slice()) else {
+        let Some(code) = code_of(flow.epoch, self.programs.as_slice()) else {
             flow.pass(ack);
             return;
         };
         let own = flow.version;
-        flow.ack(n, epoch, code, ack, own, answer);
+        flow.ack(n, code, ack, own, answer);
     }
 
     /// Puts the answer to the next message, an acknowledgement, into `answer`, if it has one; the message is counted.

@@ -1,14 +1,15 @@
 //! The next frame of an input, answered.
 
-ghost use Rattle.std.specs.Prelude.{◌≡◌, ◌≤◌, length};
+ghost use Rattle.std.specs.Prelude.{◌≡◌, ◌≤◌, length, None};
 ghost use Rattle.feed_core.specs.FeedTurns.{without_frame, IsTurn, KeepsFinished};
 
-use crate::ack_frame::ack_frame;
+use crate::ack_frame::{ACK_BYTES, ack_frame};
 use crate::answerer::Answerer;
 use crate::answering::{Unanswered, answer, answer_ack};
 use crate::duplex::Duplex;
 use ccp_base::NoMemory;
-use ccp_messages::{BadKind, DecodeFault, decode};
+use ccp_messages::{BadKind, DecodeFault, Message, decode};
+use reply_frames::Version;
 use std::alloc::Global;
 
 /// The outcome of the bytes after the answered frames.
@@ -36,14 +37,18 @@ fn without_frame(fault: DecodeFault) -> Turn
     }
 }
 
-/// Answers the frame that the bytes begin with.
+/// Answers the frame that the bytes begin with. The answer to an acknowledgement is made in `answer`, which is `None`
+/// before and afterwards.
 pub fn next_frame<A: Answerer, D: Duplex>(
     alloc: Global,
     answerer: &mut A,
     bytes: &[u8],
+    answer: &mut Option<(Message, Version)>,
     duplex: &mut D,
 ) -> Turn
     requires room { length bytes.now ≤ A.room answerer.old }
+    requires none { answer.old ≡ None }
+    ensures none { answer.new ≡ None }
     ensures follows { D.Follows duplex.old duplex.new }
     ensures remaining { D.remaining duplex.new ≡ D.remaining duplex.old }
     ensures read_faults { D.read_faults duplex.new ≡ D.read_faults duplex.old }
@@ -54,8 +59,8 @@ pub fn next_frame<A: Answerer, D: Duplex>(
     ensures kept { KeepsFinished (D.is_finished duplex.old) (D.is_finished duplex.new) result }
 {
     match ack_frame(bytes) {
-        Some(frame) => match answer_ack(answerer, &frame, duplex) {
-            Ok(()) => Turn::Answered(frame.used),
+        Some(frame) => match answer_ack(answerer, &frame, answer, duplex) {
+            Ok(()) => Turn::Answered(ACK_BYTES),
             Err(_) => Turn::WriteFailed,
         },
         None => other_frame(alloc, answerer, bytes, duplex),

@@ -7,6 +7,7 @@ use Rattle.ccp_base.specs.declared.exchange.Reply.{Reply}
 use Rattle.ccp_base.specs.declared.exchange.Reply.TheVariants.{Nothing, Update, Change}
 use Rattle.ccp_base.specs.declared.exchange.Told.{Told}
 use Rattle.ccp_base.specs.declared.exchange.Told.TheVariants as said
+use Rattle.ccp_base.specs.RunningEpochs.{next_epoch}
 use Rattle.portus_core.specs.Epoch as epoch
 use Rattle.reg_code.specs.CodeStart.{with_values, declared_kept}
 use Rattle.fold_machine.specs.MachineState.{MachineState, Fits}
@@ -22,7 +23,6 @@ use Rattle.flow_core.specs.declared.bare.Issued.{Issued}
 use Rattle.flow_core.specs.Readings.{env_of, code_at, over_codes}
 use Rattle.flow_core.specs.LiveText.{reports_told}
 use Rattle.flow_core.specs.Outbox.{Lies}
-use Rattle.flow_core.specs.RunningEpochs.{next_epoch}
 use Rattle.flow_core.specs.States.{some_count}
 use Rattle.flow_core.specs.Summaries.{Summary, step_reply, step_out, step_answer}
 use Rattle.flow_core.specs.Bares.{reports_in, summary_by, told_ticket, InRange, IsBare, closed_parts, ObeysBare}

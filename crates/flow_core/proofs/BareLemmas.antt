@@ -13,6 +13,8 @@ use Rattle.portus_core.specs.Epoch.{Outcome, quiet, reported, held, failed, stop
 use Rattle.portus_core.specs.Reports.{report_of}
 use Rattle.ccp_base.specs.declared.ack.Ack.{Ack}
 use Rattle.ccp_base.specs.declared.arithmetic.FaultKind.{FaultKind}
+use Rattle.ccp_base.specs.RunningEpochs.{reporter, report_at, reported_epoch}
+use Rattle.ccp_base.specs.declared.running_epoch.RunningEpoch.{RunningEpoch}
 use Rattle.flow_core.specs.declared.case.Case.{Case}
 use Rattle.fold_machine.specs.declared.acked.Acked.{Acked}
 use Rattle.fold_machine.specs.declared.acked.Acked.TheVariants as acked
@@ -24,10 +26,7 @@ use Rattle.flow_core.specs.declared.bare.BareParts.{BareParts}
 use Rattle.flow_core.specs.Outbox.{OutboxState, report_words, ReportFits, AreStored, Lies, next_told, notice_left}
 use Rattle.flow_core.specs.Readings.{Flow, env_of, code_at, by_code, over_codes}
 use Rattle.flow_core.specs.ReportWords.{narrow, report_in}
-use Rattle.flow_core.specs.declared.running_epoch.RunningEpoch.{RunningEpoch}
-use Rattle.flow_core.specs.RunningEpochs.{report_at, reported_epoch}
 use Rattle.flow_core.specs.States.{outcome_by, some_count}
-use Rattle.flow_core.specs.World.{reporter}
 use Rattle.flow_core.specs.Summaries.{Summary, step_outcome, outcome_at, step_ack, next_telling, with_told, step_take, can_tell}
 use Rattle.flow_core.specs.Bares.{reports_in, summary_by, InRange, IsBare, step_note, step_machine, step_count, NotesBare, instructions_at}
 use Rattle.flow_core.specs.Cores.{acked_as, ran_by}
@@ -225,8 +224,8 @@ module _ (s : BareParts) (ack : Ack) (machine : MachineState) (outbox : OutboxSt
     (framed : machine ≡ record s.machine { further = machine.further })
     (lies : Lies machine.further outbox.slots (reports_in s.machine.further s.outbox.slots ++ report ∷ []))
     (untold : outbox.untold ≡ s.outbox.untold)
-    (is_report : report ≡ report_at s.epoch s.case.flow s.acks ack s.machine.kept.cwnd s.machine.kept.rate s.machine.report)
-    (is_epoch : epoch ≡ reported_epoch s.acks s.epoch) where
+    (is_report : report ≡ report_at s.epoch s.case.flow (s.acks + 1) ack.now s.machine.kept.cwnd s.machine.kept.rate s.machine.report)
+    (is_epoch : epoch ≡ reported_epoch (s.acks + 1) s.epoch) where
   abbrev pub put : BareParts
   put = record s { machine = machine; outbox = outbox; epoch = epoch }
 

@@ -1,11 +1,7 @@
--- What two tests that both hold say of each.
+-- What two tests that both hold say of an option.
 use Rattle.std.specs.Prelude.{◌≡◌, Bool, true, false, ◌&&◌, is_none, Option, Some, None, refl}
 use Rattle.std.proofs.Common.{sym}
 use Rattle.std.proofs.lemmas.Bool.{true≢false}
-
-pub and-right : (one other : Bool) → (one && other) ≡ true → other ≡ true
-and-right true other both = both
-and-right false other both = absurd (true≢false (sym both))
 
 pub none-left : {A : Type 0} (out : Option A) (can : Bool) → (is_none out && can) ≡ true → out ≡ None
 none-left None can both = refl

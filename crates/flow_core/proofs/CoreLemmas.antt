@@ -1,7 +1,7 @@
 -- One more letter at the word's end: what holds of a flow and its journal holds of both after it.
 use Rattle.std.specs.Prelude.{◌≡◌, ℕ, ◌+◌, ◌<◌, true, ◌&&◌, nat_le, is_some, is_none, Option, Some, None, option_map, unwrap_or, List, [], ◌∷◌, length, refl}
 use Rattle.std.proofs.Common.{ap, sym, ◌∙◌, subst, arith, length-append}
-use Rattle.std.proofs.lemmas.Bool.{lt-ltb, true≢false}
+use Rattle.std.proofs.lemmas.Bool.{lt-ltb, true≢false, and_parts}
 use Rattle.std.proofs.lemmas.Option.{none-some}
 use Rattle.ccp_base.specs.declared.ack.Ack.{Ack}
 use Rattle.ccp_base.specs.declared.exchange.Notice.{Notice}
@@ -27,7 +27,7 @@ use Rattle.flow_core.specs.States.{issued_as, some_count}
 use Rattle.flow_core.specs.Summaries.{Summary, summary, outcome_at, step_ack, next_telling, with_told, step_take, can_tell, step_reply, step_turn, step_out, step_answer, may_make}
 use Rattle.flow_core.specs.Bares.{BareState, told_ticket}
 use Rattle.flow_core.specs.Journals.{with_item, with_some, journal_ack, journal_take, journal_answer, new_notice, journal_line, taken_at, line_after, HaveLineRoom, HasLines, Records, world_by, letter_count, IsCore}
-use Rattle.flow_core.proofs.BothLemmas.{and-right, none-left}
+use Rattle.flow_core.proofs.BothLemmas.{none-left}
 use Rattle.flow_core.proofs.WordLemmas.{world_over-A, legal_over-A}
 use Rattle.flow_core.proofs.SummaryLemmas.{summary-ack, summary-take, summary-answer, summary-legal}
 use Rattle.flow_core.proofs.JournalLemmas.{records-ack, records-take, records-answer}
@@ -180,7 +180,7 @@ module _ (bare : BareState) (j : Journal) (core : IsCore bare j) where
           legal_over-append flow j.acks.items j.word.items T (ap (λ (n : ℕ). nat_le n (length j.acks.items)) (acks_in-T j.word.items)) ∙ (λ i. core.legal i && can i);
       all = acks_in-T j.word.items ∙ core.all;
       letters =
-          let more = count-told s.waiting s.untold s (none-left s.out (can_tell s) may) (and-right (is_none s.out) (can_tell s) may) in
+          let more = count-told s.waiting s.untold s (none-left s.out (can_tell s) may) (and_parts (is_none s.out) (can_tell s) may).1 in
           length-append j.word.items (T ∷ []) ∙ ap (λ (n : ℕ). n + 1) core.letters ∙ sym more;
       rooms = record { faults = core.rooms.faults; acks = core.rooms.acks; word = core.rooms.word };
       lines = lines-any (step_take s).out j room;

@@ -1,12 +1,13 @@
 -- Each legal letter leaves fewer letters than could come before it.
 use Rattle.std.specs.Prelude.{◌≡◌, ◌<◌, ◌≤◌, Bool, true, false, is_some, is_none, ◌&&◌, Option, Some, None, List, [], ◌∷◌, length, refl}
 use Rattle.std.proofs.Common.{arith, ap, length-append}
-use Rattle.std.proofs.lemmas.Bool.{ltb-true}
+use Rattle.std.proofs.lemmas.Bool.{ltb-true, and_parts}
 use Rattle.ccp_base.specs.declared.ack.Ack.{Ack}
 use Rattle.ccp_base.specs.declared.arithmetic.FaultKind.{FaultKind}
 use Rattle.ccp_base.specs.declared.exchange.Report.{Report}
 use Rattle.ccp_base.specs.declared.exchange.Reply.{Reply}
 use Rattle.ccp_base.specs.declared.exchange.Reply.TheVariants.{Nothing, Update, Change}
+use Rattle.ccp_base.specs.RunningEpochs.{reporter}
 use Rattle.portus_core.specs.declared.env.Env.{Env}
 use Rattle.portus_core.specs.Epoch.{Outcome, quiet, reported, held, failed, stopped, Track, heard}
 use Rattle.portus_core.specs.Reports.{report_of}
@@ -17,11 +18,11 @@ use Rattle.link_model.specs.Link.{ack_after}
 use Rattle.flow_core.specs.declared.letter.Letter.{Letter}
 use Rattle.flow_core.specs.declared.letter.Letter.TheVariants.{A, T, C}
 use Rattle.flow_core.specs.Readings.{Flow}
-use Rattle.flow_core.specs.World.{Failure, Taken, World, reporter, track_of, has_room, with_met, after_ack, takeable, with_taken, after_take, told_as, with_turn, answer_applied, after_answer}
+use Rattle.flow_core.specs.World.{Failure, Taken, World, track_of, has_room, with_met, after_ack, takeable, with_taken, after_take, told_as, with_turn, answer_applied, after_answer}
 use Rattle.flow_core.specs.Words.{from_link, after_letter, can_take, is_legal}
 use Rattle.flow_core.specs.States.{some_count}
 use Rattle.flow_core.specs.LettersLeft.{letters_left}
-use Rattle.flow_core.proofs.BothLemmas.{and-right, none-left}
+use Rattle.flow_core.proofs.BothLemmas.{none-left}
 
 some_count-most : {Y : Type 0} (option : Option Y) → some_count option ≤ 1
 some_count-most None = omega arith
@@ -77,7 +78,7 @@ module _ {X : Type 0} (flow : Flow X) where
 
   pub left-take : (w : World X) → (is_none w.out && can_take w) ≡ true → letters_left flow (after_take w) < letters_left flow w
   left-take w may =
-      left-taking w.waiting w.untold w refl refl (and-right (is_none w.out) (can_take w) may)
+      left-taking w.waiting w.untold w refl refl (and_parts (is_none w.out) (can_take w) may).1
       (ap some_count (none-left w.out (can_take w) may))
 
   pub left-answer : (w : World X) → is_some w.out ≡ true → letters_left flow (after_answer flow w) < letters_left flow w

@@ -4,9 +4,10 @@ use Rattle.ccp_base.specs.declared.ack.Ack.{Ack}
 use Rattle.ccp_base.specs.declared.arithmetic.FaultKind.{FaultKind}
 use Rattle.ccp_base.specs.declared.place.Place.{Place}
 use Rattle.ccp_base.specs.declared.exchange.Report.{Report}
+use Rattle.ccp_base.specs.RunningEpochs.{Reporter}
 use Rattle.portus_core.specs.declared.env.Env.{Env}
 use Rattle.portus_core.specs.Epoch.{Outcome, quiet, reported, held, failed, stopped, Track}
-use Rattle.portus_core.specs.Reports.{Reporter, reports_met}
+use Rattle.portus_core.specs.Reports.{reports_met}
 use Rattle.flow_core.specs.World.{Failure, World, failures_met, untold_after, held_met, takeable, with_taken, after_take}
 use Rattle.flow_core.specs.Lift.{Placing, map_failure, map_world}
 use Rattle.flow_core.proofs.SimulatedEpochs.{outcome_placed, met_placed}

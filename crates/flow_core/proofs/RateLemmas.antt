@@ -4,7 +4,7 @@ use Rattle.std.proofs.Common.{ap, sym, ◌∙◌}
 use Rattle.std.proofs.lemmas.Bool.{or_parts, true≢false}
 use Rattle.ccp_base.specs.declared.ack.Ack.{Ack}
 use Rattle.ccp_base.specs.declared.arithmetic.FaultKind.{FaultKind}
-use Rattle.ccp_base.specs.Acknowledgement.{primitives, bool_number}
+use Rattle.ccp_base.specs.Acknowledgement.{primitives}
 use Rattle.ccp_base.specs.Blending.{moving_average}
 use Rattle.ccp_base.specs.Truth.{is_true}
 use Rattle.ccp_base.specs.Operations.{apply}
@@ -42,10 +42,7 @@ beside (x ∷ front) rest a b c d (suc n) first second =
 primitive-unread : (n : ℕ) (ack : Ack) → is_rate_number n ≡ false → slice_get (primitives (without_rates ack)) n ≡ slice_get (primitives ack) n
 primitive-unread n ack none =
     let neither = or_parts (n == 11) (n == 12) none in
-    let front : List ℕ =
-    ack.bytes_acked ∷ ack.packets_acked ∷ ack.bytes_misordered ∷ ack.packets_misordered ∷ ack.ecn_bytes
-    ∷ ack.ecn_packets ∷ ack.lost_pkts_sample ∷ ack.now ∷ ack.bytes_in_flight ∷ ack.packets_in_flight ∷ ack.bytes_pending ∷ [] in
-    beside front (ack.rtt_sample_us ∷ bool_number ack.was_timeout ∷ []) 0 0 ack.rate_incoming ack.rate_outgoing n
+    beside (take 11 (primitives ack)) (drop 13 (primitives ack)) 0 0 ack.rate_incoming ack.rate_outgoing n
     (λ same. true≢false (sym (ap (λ (k : ℕ). k == 11) same) ∙ neither.0))
     (λ same. true≢false (sym (ap (λ (k : ℕ). k == 12) same) ∙ neither.1))
 

@@ -11,6 +11,7 @@ use Rattle.portus_core.specs.Reports.{report_of}
 use Rattle.ccp_base.specs.declared.exchange.Reply.{Reply}
 use Rattle.ccp_base.specs.declared.exchange.Reply.TheVariants.{Nothing, Update, Change}
 use Rattle.ccp_base.specs.FieldReg.{Pair, first_bad_pair}
+use Rattle.ccp_base.specs.RunningEpochs.{reporter, opening_epoch, next_epoch}
 use Rattle.fold_machine.specs.Heard.{started_by, updated_by}
 use Rattle.slot_pool.specs.Pool.{PoolState, words_at, free_of}
 use Rattle.fold_machine.specs.MachineState.{Fits}
@@ -22,13 +23,12 @@ use Rattle.flow_core.specs.declared.bare.BareParts.{BareParts}
 use Rattle.flow_core.specs.declared.case.Case.{Case}
 use Rattle.flow_core.specs.declared.bare.Issued.{Issued}
 use Rattle.flow_core.specs.Readings.{Flow, env_of, code_at, over_codes}
-use Rattle.flow_core.specs.World.{reporter, failure_with, notice_of}
+use Rattle.flow_core.specs.World.{failure_with, notice_of}
 use Rattle.flow_core.specs.Cores.{ran_by}
 use Rattle.flow_core.specs.declared.bare.First.{First}
 use Rattle.flow_core.specs.Opening.{opened_machine}
 use Rattle.flow_core.specs.Outbox.{Lies, empty_outbox}
 use Rattle.flow_core.specs.ReportWords.{report_in}
-use Rattle.flow_core.specs.RunningEpochs.{opening_epoch, next_epoch}
 use Rattle.flow_core.specs.States.{some_count}
 use Rattle.flow_core.specs.Summaries.{Summary}
 

@@ -1,5 +1,6 @@
 -- The result of a flow's history, as its tickets and its book have it.
-use Rattle.std.specs.Prelude.{◌≡◌, Option, option_map, [], ◌∷◌, ◌++◌, length, map}
+use Rattle.std.specs.Prelude.{◌≡◌, ℕ, Option, option_map, [], ◌∷◌, ◌++◌, length, map}
+use Rattle.ccp_base.specs.declared.running_epoch.RunningEpoch.{RunningEpoch}
 use Rattle.agent_core.specs.declared.ticket.Ticket.{Ticket}
 use Rattle.flow_core.specs.declared.book.Book.{Book}
 use Rattle.flow_core.specs.declared.book.EpochLine.{EpochLine}
@@ -31,6 +32,10 @@ ticket_line flow ticket = record {
 -- the window of an epoch is the one that it starts with, as the change sent it
 abbrev pub epoch_line : Era → EpochLine
 epoch_line era = record { program = era.program; at = era.at; cwnd = era.first.cwnd }
+
+-- the line of the epoch that runs, which begins after this many acknowledgements with this window
+abbrev pub line_of : RunningEpoch → ℕ → ℕ → EpochLine
+line_of epoch acks cwnd = record { program = epoch.program; at = acks; cwnd = cwnd }
 
 -- the book has the result of the history
 pub record IsBookOf {X : Type 0} (flow : Flow X) (w : World X) (book : Book) : Type 0 where

@@ -4,7 +4,6 @@
 -- it, its outbox and lists, and the text of a live run
 pub mod Readings
 pub mod World
-pub mod RunningEpochs
 pub mod Cases
 pub mod ReadsRates
 pub mod Words

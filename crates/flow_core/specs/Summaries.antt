@@ -9,6 +9,7 @@ use Rattle.ccp_base.specs.declared.exchange.Reply.{Reply}
 use Rattle.ccp_base.specs.declared.exchange.Reply.TheVariants.{Nothing, Update, Change}
 use Rattle.ccp_base.specs.declared.exchange.Told.{Told}
 use Rattle.ccp_base.specs.declared.exchange.Told.TheVariants as told
+use Rattle.ccp_base.specs.RunningEpochs.{reporter}
 use Rattle.portus_core.specs.declared.env.Env.{Env}
 use Rattle.portus_core.specs.Epoch.{Outcome, Track, track_at, heard, after_outcome, with_values}
 use Rattle.portus_core.specs.Reports.{reports_met}
@@ -18,7 +19,7 @@ use Rattle.flow_core.specs.declared.letter.Letter.{Letter}
 use Rattle.flow_core.specs.declared.letter.Letter.TheVariants.{A, T, C}
 use Rattle.flow_core.specs.declared.bare.Issued.{Issued}
 use Rattle.flow_core.specs.Readings.{Flow}
-use Rattle.flow_core.specs.World.{Failure, World, track_of, time_of, reporter, failures_met, held_met, notice_of}
+use Rattle.flow_core.specs.World.{Failure, World, track_of, time_of, failures_met, held_met, notice_of}
 use Rattle.flow_core.specs.States.{issued_as}
 use Rattle.flow_core.specs.LiveText.{reports_told, report_count}
 use Rattle.flow_core.specs.Books.{ticket_line}

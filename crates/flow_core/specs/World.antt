@@ -9,10 +9,11 @@ use Rattle.ccp_base.specs.declared.exchange.Reply.TheVariants.{Nothing, Update, 
 use Rattle.ccp_base.specs.declared.exchange.Told.{Told}
 use Rattle.ccp_base.specs.declared.exchange.Told.TheVariants as told
 use Rattle.ccp_base.specs.FieldReg.{Pair}
+use Rattle.ccp_base.specs.RunningEpochs.{reporter, notice_by}
 use Rattle.portus_core.specs.declared.env.Env.{Env}
 use Rattle.portus_core.specs.Epoch.{Event, acknowledged, updated, Outcome, quiet, reported, held, failed, stopped}
 use Rattle.portus_core.specs.Epoch.{Track, track_at, heard, after, with_values}
-use Rattle.portus_core.specs.Reports.{Reporter, reports_met}
+use Rattle.portus_core.specs.Reports.{reports_met}
 use Rattle.agent_core.specs.declared.agent.Agent.{Agent}
 use Rattle.agent_core.specs.Agents.{opening_change, replied, course_of, values_of}
 use Rattle.flow_core.specs.Readings.{Flow}
@@ -112,10 +113,6 @@ opening flow = record {
 
 -- ---- an acknowledgement
 
--- whose reports those of a flow's epoch are
-abbrev pub reporter : ℕ → ℕ → ℕ → Reporter
-reporter flow program number = record { flow = flow; program = program; number = number }
-
 -- the fault of an acknowledgement with this window, in an epoch with this program and this number
 abbrev pub failure_with : {X : Type 0} → ℕ → ℕ → ℕ → Ack → ℕ → FaultKind × X → Failure X
 failure_with program epoch at ack cwnd fault =
@@ -204,16 +201,9 @@ with_reply flow agent (Change program cwnd cap) w =
 
 -- a failure as its notice, for the flow with this number and by the index of each site
 abbrev pub notice_with : {X : Type 0} → ℕ → (X → ℕ) → Failure X → Notice
-notice_with flow index failure = record {
-  flow = flow;
-  program = failure.program;
-  epoch = failure.epoch;
-  at = failure.at;
-  kind = failure.kind;
-  index = index failure.site;
-  now = failure.now;
-  cwnd = failure.cwnd;
-}
+notice_with flow index failure =
+    notice_by (reporter flow failure.program failure.epoch) failure.at failure.now failure.cwnd failure.kind
+    (index failure.site)
 
 abbrev pub notice_of : {X : Type 0} → Flow X → Failure X → Notice
 notice_of flow failure = notice_with flow.number flow.index failure

@@ -25,9 +25,8 @@ use crate::letter::Letter;
 use crate::machine_calls::{pop_told, put_report, run};
 use crate::opening::opening_machine;
 use crate::outbox::Outbox;
-use crate::running_epoch::RunningEpoch;
 use agent_core::{Agent, Answer, Ticket};
-use ccp_base::{Ack, FaultKind, FieldReg, Fields, NoMemory, Notice, Reply, Told};
+use ccp_base::{Ack, FaultKind, FieldReg, Fields, NoMemory, Notice, Reply, RunningEpoch, Told};
 use fold_machine::{Acked, Machine, Steps};
 use std::alloc::Global;
 use std::marker::{Brand, Model};
@@ -228,7 +227,8 @@ impl BareParts {
         let fields = self.machine.reported();
         let cwnd = self.machine.cwnd();
         let rate = self.machine.rate();
-        let report = self.epoch.report(flow, self.acks, ack, cwnd, rate, &fields);
+        let end = u64::from(self.acks) + 1;
+        let report = self.epoch.report(flow, end, ack.now, cwnd, rate, &fields);
         put_report(&mut self.machine, &mut self.outbox, &report);
     }
 
@@ -239,7 +239,8 @@ impl BareParts {
     {
         let flow = self.case.flow;
         let cwnd = self.machine.cwnd();
-        let notice = self.epoch.notice(flow, self.acks, ack, cwnd, kind, index);
+        let at = u64::from(self.acks);
+        let notice = self.epoch.notice(flow, at, ack.now, cwnd, kind, index);
         self.faults += 1;
         self.outbox.note(notice);
     }
@@ -332,7 +333,7 @@ impl BareParts {
         let Ok(()) = self.machine.start(code, &values, self.time) else {
             unreachable!()
         };
-        self.epoch = self.epoch.next(program, self.acks);
+        self.epoch = self.epoch.next(program, u64::from(self.acks));
         self.outbox.void();
     }
 
@@ -469,9 +470,11 @@ impl Bare {
     pub(crate) fn begun_line(&self) -> EpochLine
         ensures { result ≡ begun_line self.now.summary }
     {
-        self.parts
-            .epoch
-            .line(self.parts.acks, self.parts.machine.cwnd())
+        EpochLine::of(
+            &self.parts.epoch,
+            self.parts.acks,
+            self.parts.machine.cwnd(),
+        )
     }
 
     /// The number of acknowledgements at which the unreported span begins.

@@ -1,7 +1,10 @@
 //! The book of a flow: its word, tickets, epochs, faults and counts, alone or with its acknowledgements.
+ghost use Rattle.std.specs.Prelude.{◌≡◌};
+ghost use Rattle.flow_core.specs.Books.{line_of};
+
 use crate::case::Case;
 use crate::letter::Words;
-use ccp_base::{Acks, Notice, Reply, Sequence, Told};
+use ccp_base::{Acks, Notice, Reply, RunningEpoch, Sequence, Told};
 use fold_machine::Machine;
 
 /// A ticket that was answered: what it told, at how many acknowledgements it was taken and at how many its answer was
@@ -20,6 +23,19 @@ pub struct EpochLine {
     pub program: u32,
     pub at: u32,
     pub cwnd: u64,
+}
+
+impl EpochLine {
+    /// The line of the epoch that runs, which begins after `acks` acknowledgements with this window, in bytes.
+    pub fn of(epoch: &RunningEpoch, acks: u32, cwnd: u64) -> EpochLine
+        ensures { result ≡ line_of epoch.now acks cwnd }
+    {
+        EpochLine {
+            program: epoch.program,
+            at: acks,
+            cwnd,
+        }
+    }
 }
 
 /// The result of a flow's history.

@@ -15,7 +15,6 @@ mod outbox;
 mod reads_rates;
 mod report_words;
 mod reserved_list;
-mod running_epoch;
 
 pub use bare::{Bare, Issued};
 pub use book::{Book, EpochLine, Given, TicketLine};
@@ -26,4 +25,3 @@ pub use letter::{Letter, Words};
 pub use outbox::Outbox;
 pub use report_words::REPORT_WORDS;
 pub use reserved_list::ReservedList;
-pub use running_epoch::RunningEpoch;

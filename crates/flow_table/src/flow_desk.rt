@@ -10,7 +10,7 @@ use crate::nudges::Nudges;
 use crate::table::FlowTable;
 use ccp_base::{Gate, Point};
 use std::sync::{MutexGuard, Wait};
-use worker_desk::{Desk, Heard};
+use worker_desk::{Desk, Heard, LockDesk};
 
 /// The desk of a datapath worker over a table of flows.
 #[derive(Drop)]
@@ -24,7 +24,7 @@ pub(crate) struct FlowDesk<'a, F: LockedFlow, N, R, G> {
     pub(crate) left: u64,
 }
 
-impl<'a, F: LockedFlow, N: Nudges, R: Wait, G: Gate> Desk for FlowDesk<'a, F, N, R, G> {
+impl<'a, F: LockedFlow, N: Nudges, R: Wait, G: Gate> LockDesk for FlowDesk<'a, F, N, R, G> {
     ghost use Rattle.std.specs.Prelude.{◌≡◌, Some, None, length};
     ghost use Rattle.flow_table.specs.HeldFlows.{number_held, OfHeld};
 
@@ -37,8 +37,6 @@ impl<'a, F: LockedFlow, N: Nudges, R: Wait, G: Gate> Desk for FlowDesk<'a, F, N,
     ghost flows = { λ d. length d.table.now };
 
     ghost coming = { λ d. d.left };
-
-    ghost HasAcked = { λ old new answer. OfHeld (λ before after. F.HasHeard before after answer) old.held new.held };
 
     ghost HasKept = { λ old new. OfHeld (λ before after. after ≡ before) old.held new.held };
 
@@ -59,6 +57,16 @@ impl<'a, F: LockedFlow, N: Nudges, R: Wait, G: Gate> Desk for FlowDesk<'a, F, N,
         guard
     }
 
+    fn pass(&mut self, worker: u32, point: Point, flow: u32) {
+        self.gate.pass(worker, point, flow);
+    }
+}
+
+impl<'a, F: LockedFlow, N: Nudges, R: Wait, G: Gate> Desk for FlowDesk<'a, F, N, R, G> {
+    ghost use Rattle.flow_table.specs.HeldFlows.{OfHeld};
+
+    ghost HasAcked = { λ old new answer. OfHeld (λ before after. F.HasHeard before after answer) old.held new.held };
+
     fn ack(&mut self, _worker: u32, _flow: u32) -> Heard {
         let Some(mut guard) = self.held.take() else {
             unreachable!()
@@ -74,10 +82,6 @@ impl<'a, F: LockedFlow, N: Nudges, R: Wait, G: Gate> Desk for FlowDesk<'a, F, N,
         }
         self.left -= 1;
         answer
-    }
-
-    fn pass(&mut self, worker: u32, point: Point, flow: u32) {
-        self.gate.pass(worker, point, flow);
     }
 
     fn nudge(&mut self, flow: u32) {

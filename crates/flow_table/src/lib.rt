@@ -18,6 +18,6 @@ pub use books::make_books;
 pub use datapath::run_datapath_worker;
 pub use flow::LockedFlow;
 pub use nudges::{NoNudges, Nudges};
-pub use serving::{Serving, begin_serving, end_serving};
+pub use serving::begin_serving;
 pub use table::FlowTable;
 pub use workers::WorkerCounts;

@@ -1,7 +1,8 @@
-//! The work of datapath workers, begun and ended.
+//! The work of datapath workers, begun.
 
 ghost use Rattle.std.specs.Prelude.{◌≡◌, map, IfOk, length};
-ghost use Rattle.flow_table.specs.Duties.{duty_of, duty, duties};
+ghost use Rattle.worker_desk.specs.Works.{duty_of, duties};
+ghost use Rattle.flow_table.specs.Duties.{duty};
 
 use crate::datapath::run_datapath_worker;
 use crate::flow::LockedFlow;
@@ -10,17 +11,8 @@ use crate::table::FlowTable;
 use ccp_base::{Gate, NoMemory, Workers};
 use std::alloc::Global;
 use std::sync::Wait;
-use std::thread::{PromisedHandle, Scope, Threads};
-use worker_desk::{Duty, Served};
-
-/// The work of a datapath worker, which goes on in a thread or was done here.
-#[derive(Drop)]
-pub enum Serving {
-    /// In a thread.
-    Thread(PromisedHandle<Served, Duty>),
-    /// Done.
-    Here(Served),
-}
+use std::thread::{Scope, Threads};
+use worker_desk::{DatapathShare, Duty, Served, Work};
 
 /// Begins the work of the datapath workers, in order.
 pub fn begin_serving<
@@ -38,17 +30,18 @@ pub fn begin_serving<
     datapaths: Workers,
     nudges: &N,
     gate: &'e G,
-) -> Result<Vec<Serving>, NoMemory>
+) -> Result<Vec<Work<DatapathShare>>, NoMemory>
 where
     F::Case: Sync,
     F::Book: Send,
-    ensures { IfOk result (λ all. map duty_of all.items ≡ duties datapaths.count (length table.now) datapaths.count) }
+    ensures { IfOk result (λ all. map duty_of all.items
+        ≡ duties (duty datapaths.count (length table.now)) datapaths.count) }
 {
-    let mut servings = Vec::new(alloc);
+    let mut works = Vec::new(alloc);
     for worker in 0..datapaths.count() {
-        servings.push(begin(scope, rt, table, datapaths, worker, nudges, gate)?)?;
+        works.push(begin(scope, rt, table, datapaths, worker, nudges, gate)?)?;
     }
-    Ok(servings)
+    Ok(works)
 }
 
 /// Begins the work of a datapath worker, with its own sender of nudges. If no thread can be started for it, it is done
@@ -68,18 +61,19 @@ fn begin<
     worker: u32,
     nudges: &N,
     gate: &'e G,
-) -> Result<Serving, NoMemory>
+) -> Result<Work<DatapathShare>, NoMemory>
 where
     F::Case: Sync,
     F::Book: Send,
-    ensures { IfOk result (λ serving. duty_of serving ≡ duty datapaths.count (length table.now) worker) }
+    ensures { IfOk result (λ work. duty_of work ≡ duty datapaths.count (length table.now) worker) }
 {
     let own = nudges.share()?;
     let promise = Duty {
         worker,
-        first: worker,
-        workers: datapaths.count(),
         flows: table.flows(),
+        share: DatapathShare {
+            workers: datapaths.count(),
+        },
     };
     let started = scope.spawn_with(
         promise,
@@ -88,36 +82,7 @@ where
         { run_datapath_worker(rt, table, datapaths, worker, &own, gate) },
     );
     match started {
-        Ok(handle) => Ok(Serving::Thread(handle)),
-        Err(_) => Ok(Serving::Here(run_datapath_worker(
-            rt, table, datapaths, worker, nudges, gate,
-        ))),
+        Ok(handle) => Ok(Work::Thread(handle)),
+        Err(_) => Ok(Work::Here(run_datapath_worker(rt, table, datapaths, worker, nudges, gate))),
     }
-}
-
-/// The end of a datapath worker's work.
-fn end<R: Threads>(rt: &R, serving: Serving) -> Served
-    ensures { result ≡ duty_of serving }
-{
-    match serving {
-        Serving::Thread(handle) => handle.join(rt),
-        Serving::Here(served) => served,
-    }
-}
-
-/// The ends of the datapath workers' work, in order.
-pub fn end_serving<R: Threads>(
-    rt: &R,
-    alloc: Global,
-    servings: Vec<Serving>,
-) -> Result<Vec<Served>, NoMemory>
-    ensures { IfOk result (λ all. all.items ≡ map duty_of servings.items) }
-{
-    let mut left = servings;
-    let mut all = Vec::new(alloc);
-    while !left.is_empty() {
-        let serving = left.remove(0);
-        all.push(end(rt, serving))?;
-    }
-    Ok(all)
 }

@@ -16,6 +16,8 @@ use ccp_base::{FieldReg, Fields};
 use reg_code::{Code, Sizes, Start, places};
 
 /// Copies `count` report fields from the working words.
+#[cold]
+#[inline(never)]
 pub(crate) fn keep_report(store: &mut Store, words: &[u64], count: usize)
     requires count { count ≤ most_fields }
     requires words { length words.now ≡ all_places }
@@ -73,6 +75,8 @@ pub(crate) fn declare(store: &mut Store, code: &Code, now: u64)
 }
 
 /// Writes the start value of each volatile register.
+#[cold]
+#[inline(never)]
 pub(crate) fn reset(store: &mut Store, code: &Code)
     requires { HasRoom (sizes_of code.now) store.old.registers }
     ensures reset { IsReset code.now store.old.registers store.new.registers }

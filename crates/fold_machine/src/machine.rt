@@ -135,25 +135,28 @@ impl Machine {
         ensures steps { steps.new ≡ steps.old + self.new.ran }
         ensures within { self.new.ran ≤ length code.now.code.instrs }
     {
-        self.ran = 0;
         if self.stopped {
+            self.ran = 0;
             return Acked::Stopped;
         }
-        let mut ran = 0;
+        let mut acked = Acked::Quiet;
         let code = code.code();
-        let acked = work(
+        let ran = work(
             &mut self.store,
             &mut self.words,
             self.sizes,
             code,
             ack,
             room,
-            &mut ran,
+            &mut acked,
             steps,
         );
+        self.ran = ran;
+        if let Acked::Quiet = acked {
+            return acked;
+        }
         self.reported = count_after(acked, self.sizes.reports as u32, self.reported);
         self.stopped = is_fault(acked);
-        self.ran = ran;
         acked
     }
 
@@ -209,14 +212,14 @@ impl Machine {
     pub fn cwnd(&self) -> u64
         ensures { result ≡ self.now.kept.cwnd }
     {
-        self.store.registers()[CWND as usize]
+        self.words[places::CWND]
     }
 
     /// The pacing rate, in bytes a second.
     pub fn rate(&self) -> u64
         ensures { result ≡ self.now.kept.rate }
     {
-        self.store.registers()[RATE as usize]
+        self.words[places::RATE]
     }
 }
 

@@ -2,6 +2,7 @@
 use Rattle.std.proofs.Common.{◌≡◌, ◌≢◌, ℕ, zero, suc, ◌+◌, ◌<◌, ◌≤◌, Bool, true, false, not, nat_lt, Option, Some, None, option_map, List, [], ◌∷◌, length, take, drop, position, slice_index, refl, ap, sym, subst, ◌∙◌, ◌⊎◌, inl, inr, arith, cond, eqb, add-one}
 use Rattle.std.proofs.lemmas.Bool.Decides.{nat_tests}
 use Rattle.std.proofs.lemmas.Slice.Eq.{bytes_eq-Decides}
+use Rattle.std.proofs.lemmas.Bool.{false_from_ne_true}
 use Rattle.std.specs.Str.{bytes_eq}
 use Rattle.std.specs.List.{position_or_len}
 use Rattle.std.specs.Option.{option_and_then}
@@ -186,13 +187,9 @@ first-equals i [] at within before is = absurd (omega arith)
 first-equals i (byte ∷ rest) zero within before is =
     inl (ap (λ b. cond b (Some i) (cond (separates Blank byte) None (equals_from (i + 1) rest))) is ∙ ap (λ k. Some k) (omega arith))
 first-equals i (byte ∷ rest) (suc at) within before is =
-    go (other_than (is_equals byte) (before 0 (omega arith) (omega arith))) (separates Blank byte) refl
+    go (false_from_ne_true (is_equals byte) (before 0 (omega arith) (omega arith))) (separates Blank byte) refl
     (first-equals (i + 1) rest at (omega arith) (λ k low high. before (suc k) (omega arith) (omega arith)) is)
   where
-    other_than : (b : Bool) → b ≢ true → b ≡ false
-    other_than true differs = absurd (differs refl)
-    other_than false differs = refl
-
     go : is_equals byte ≡ false → (blank : Bool) → separates Blank byte ≡ blank
         → (equals_from (i + 1) rest ≡ Some ((i + 1) + at)) ⊎ ((equals_from (i + 1) rest ≡ None) × (has_blank (take at rest) ≡ true))
         → (equals_from i (byte ∷ rest) ≡ Some (i + suc at)) ⊎ ((equals_from i (byte ∷ rest) ≡ None) × (has_blank (take (suc at) (byte ∷ rest)) ≡ true))
@@ -212,12 +209,8 @@ first-equals i (byte ∷ rest) (suc at) within before is =
 pub no-equals : (i : ℕ) (text : List ℕ) → ((k : ℕ) → 0 ≤ k → k < length text → is_equals (slice_index text k) ≢ true) → equals_from i text ≡ None
 no-equals i [] none = refl
 no-equals i (byte ∷ rest) none =
-    go (other_than (is_equals byte) (none 0 (omega arith) (omega arith))) (separates Blank byte) refl (no-equals (i + 1) rest (λ k low high. none (suc k) (omega arith) (omega arith)))
+    go (false_from_ne_true (is_equals byte) (none 0 (omega arith) (omega arith))) (separates Blank byte) refl (no-equals (i + 1) rest (λ k low high. none (suc k) (omega arith) (omega arith)))
   where
-    other_than : (b : Bool) → b ≢ true → b ≡ false
-    other_than true differs = absurd (differs refl)
-    other_than false differs = refl
-
     go : is_equals byte ≡ false → (blank : Bool) → separates Blank byte ≡ blank → equals_from (i + 1) rest ≡ None → equals_from i (byte ∷ rest) ≡ None
     go other true blank later = ap (λ b. cond b (Some i) (cond (separates Blank byte) None (equals_from (i + 1) rest))) other ∙ ap (λ b. cond b None (equals_from (i + 1) rest)) blank
     go other false blank later = ap (λ b. cond b (Some i) (cond (separates Blank byte) None (equals_from (i + 1) rest))) other ∙ ap (λ b. cond b None (equals_from (i + 1) rest)) blank ∙ later

@@ -3,9 +3,10 @@ use Rattle.std.proofs.Common.{◌≡◌, ℕ, zero, suc, ◌+◌, ◌<◌, Some,
 use Rattle.std.proofs.lemmas.List.{drop-drop}
 use Rattle.std.proofs.lemmas.Option.{slice_get-get_or}
 use Rattle.ccp_base.specs.declared.exchange.Report.{Report}
+use Rattle.ccp_base.specs.RunningEpochs.{Reporter}
 use Rattle.portus_core.specs.Value.{Cause}
 use Rattle.portus_core.specs.Epoch.{Event, Reading, Track, after_event}
-use Rattle.portus_core.specs.Reports.{Reporter, reports, reports_at}
+use Rattle.portus_core.specs.Reports.{reports, reports_at}
 
 next-at : {X : Type 0} (n : ℕ) (xs : List X) (x d : X) (rest : List X) → x ∷ rest ≡ drop n xs → (n < length xs) × (get_or xs n d ≡ x)
 next-at zero [] x d rest is = cc

@@ -4,10 +4,11 @@ use Rattle.ccp_base.specs.declared.ack.Ack.{Ack}
 use Rattle.ccp_base.specs.declared.exchange.Notice.{Notice}
 use Rattle.ccp_base.specs.declared.exchange.Report.{Report}
 use Rattle.ccp_base.specs.declared.place.Place.{Place}
+use Rattle.ccp_base.specs.RunningEpochs.{Reporter, reporter}
 use Rattle.portus_core.specs.Programs.{Form}
 use Rattle.portus_core.specs.Value.{Cause}
 use Rattle.portus_core.specs.Epoch.{Event, acknowledged, by_source, Track, track_at, declared_env, after}
-use Rattle.portus_core.specs.Reports.{Reporter, reports, epoch_fault}
+use Rattle.portus_core.specs.Reports.{reports, epoch_fault}
 use Rattle.portus_core.specs.ProgramForm.{form_of}
 use Rattle.reg_compiler.specs.declared.built.Built.{Built}
 use Rattle.reg_compiler.specs.Simulation.{place_at}
@@ -15,7 +16,7 @@ use Rattle.report_lines.specs.declared.end_line.End.{End}
 
 -- the one epoch of a fold
 abbrev pub fold_reporter : Reporter
-fold_reporter = record { flow = 0; program = 0; number = 0 }
+fold_reporter = reporter 0 0 0
 
 -- each acknowledgement finds room for a report
 abbrev pub with_room : Ack → Event

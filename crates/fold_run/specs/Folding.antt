@@ -6,6 +6,7 @@ use Rattle.ccp_base.specs.declared.arithmetic.FaultKind.{FaultKind}
 use Rattle.ccp_base.specs.declared.exchange.Notice.{Notice}
 use Rattle.ccp_base.specs.declared.exchange.Report.{Report}
 use Rattle.ccp_base.specs.declared.place.Place.{Place}
+use Rattle.ccp_base.specs.RunningEpochs.{report_at, reported_epoch, notice_at}
 use Rattle.portus_core.specs.declared.env.Env.{Env}
 use Rattle.portus_core.specs.declared.env.Mean.{Mean}
 use Rattle.portus_core.specs.OneAcknowledgement.{one_of}
@@ -29,7 +30,7 @@ abbrev pub folding_track : Folding → Track
 folding_track folding = record {
   env = env_of folding.machine.kept;
   is_stopped = folding.machine.is_stopped;
-  first = folding.first;
+  first = folding.epoch.first;
   count = folding.count;
 }
 
@@ -42,27 +43,23 @@ folding_code_run folding = record {
 }
 
 -- the fold's machine runs this code, at most 2^32 instructions an acknowledgement, and it is stopped if there was a
--- fault
+-- fault; its one epoch is number 0 of program 0
 pub record IsFoldOf (code : Code) (folding : Folding) : Type 0 where
   pub fits : Fits folding.machine code
   pub stopped : folding.machine.is_stopped ≡ is_some folding.fault
   pub ran : folding.ran ≤ folding.count * 4294967296
+  pub program : folding.epoch.program ≡ 0
+  pub number : folding.epoch.number ≡ 0
 
 -- a fold after a report of the span up to the acknowledgements counted
 abbrev pub reported_by : Folding → Ack → Folding
 reported_by folding ack = record folding {
-  first = folding.count;
-  reports = folding.reports ++ record {
-    flow = 0;
-    program = 0;
-    epoch = 0;
-    first = folding.first;
-    end = folding.count;
-    now = ack.now;
-    cwnd = folding.machine.kept.cwnd;
-    rate = folding.machine.kept.rate;
-    fields = folding.machine.report;
-  } ∷ [];
+  epoch = reported_epoch folding.count folding.epoch;
+  reports =
+      folding.reports
+      ++ report_at folding.epoch 0 folding.count ack.now folding.machine.kept.cwnd folding.machine.kept.rate
+      folding.machine.report
+      ∷ [];
 }
 
 -- the notice of a fold, if it has one, is of one of these acknowledgements
@@ -116,23 +113,14 @@ KeepsNotice built ack before now =
 
 -- the notice of a fault at it
 abbrev pub folding_notice : Folding → ℕ → FaultKind → ℕ → ℕ → Notice
-folding_notice folding at kind index now = record {
-  flow = 0;
-  program = 0;
-  epoch = 0;
-  at = at;
-  kind = kind;
-  index = index;
-  now = now;
-  cwnd = folding.machine.kept.cwnd;
-}
+folding_notice folding at kind index now = notice_at folding.epoch 0 at now folding.machine.kept.cwnd kind index
 
 -- ---- the end
 
 abbrev pub end_with : Folding → End
 end_with folding = record {
   acks = folding.count;
-  first = folding.first;
+  first = folding.epoch.first;
   stopped = is_some folding.fault;
   cwnd = folding.machine.kept.cwnd;
   rate = folding.machine.kept.rate;

@@ -12,7 +12,7 @@ ghost use Rattle.fold_run.specs.Folding.{code_after, end_with, fault_after, faul
 ghost use Rattle.fold_run.specs.Folding.{reports_after, track_after};
 ghost use Rattle.fold_run.specs.Ran.{running_start};
 
-use ccp_base::{Ack, FaultKind, Fields, NoMemory, Notice, Report, Reports};
+use ccp_base::{Ack, FaultKind, Fields, NoMemory, Notice, Reports, RunningEpoch};
 use fold_machine::{Acked, Machine, Steps};
 use reg_compiler::Built;
 use report_lines::End;
@@ -23,8 +23,8 @@ use std::sync::ledger::Ledger;
 #[derive(Drop)]
 pub struct Folding {
     pub machine: Machine,
-    /// How many acknowledgements came before the unreported span.
-    pub first: u64,
+    /// The fold's one epoch.
+    pub epoch: RunningEpoch,
     /// How many acknowledgements there were.
     pub count: u64,
     /// How many instructions were run.
@@ -71,7 +71,7 @@ impl Folding {
         match machine.start(&built.code, &Fields::new(), 0) {
             Ok(()) => Ok(Folding {
                 machine,
-                first: 0,
+                epoch: RunningEpoch::opening(0, 0),
                 count: 0,
                 ran: 0,
                 reports: Reports::new(alloc),
@@ -121,18 +121,13 @@ impl Folding {
         requires { self.old.count < 2 ^ 64 }
         ensures { OnOk result (self.new ≡ reported_by self.old ack.entry.now) }
     {
-        self.reports.push(Report {
-            flow: 0,
-            program: 0,
-            epoch: 0,
-            first: self.first,
-            end: self.count,
-            now: ack.now,
-            cwnd: self.machine.cwnd(),
-            rate: self.machine.rate(),
-            fields: self.machine.reported(),
-        })?;
-        self.first = self.count;
+        let fields = self.machine.reported();
+        let cwnd = self.machine.cwnd();
+        let rate = self.machine.rate();
+        let report = self
+            .epoch
+            .report(0, self.count, ack.now, cwnd, rate, &fields);
+        self.reports.push(report)?;
         Ok(())
     }
 
@@ -140,16 +135,8 @@ impl Folding {
     fn notice(&self, at: u64, kind: FaultKind, index: u16, now: u64) -> Notice
         ensures { result ≡ folding_notice self.now at kind index now }
     {
-        Notice {
-            flow: 0,
-            program: 0,
-            epoch: 0,
-            at,
-            kind,
-            index,
-            now,
-            cwnd: self.machine.cwnd(),
-        }
+        self.epoch
+            .notice(0, at, now, self.machine.cwnd(), kind, index)
     }
 
     /// The end of the fold.
@@ -158,7 +145,7 @@ impl Folding {
     {
         End {
             acks: self.count,
-            first: self.first,
+            first: self.epoch.first,
             stopped: self.fault.is_some(),
             cwnd: self.machine.cwnd(),
             rate: self.machine.rate(),

@@ -14,4 +14,5 @@ pub mod HorizonLemmas
 pub mod RunLemmas
 pub mod SendingLemmas
 pub mod LineLemmas
+pub mod RingLemmas
 mod WorkedRows

@@ -1,6 +1,7 @@
 -- The losses listed: whether a number is among them, by the place of the first one that isn't below it.
 use Rattle.std.proofs.Common.{◌≡◌, ◌≢◌, ℕ, zero, suc, ◌+◌, ◌<◌, ◌≤◌, Bool, true, false, eqb, ◌||◌, List, [], ◌∷◌, length, get_or, refl, ap, sym, ◌∙◌, arith, inl, inr}
 use Rattle.std.specs.List.Sorted.{IsStrictlyIncreasing}
+use Rattle.std.proofs.lemmas.List.{get_or_default}
 use Rattle.std.proofs.lemmas.Bool.{cases_lt}
 use Rattle.std.proofs.lemmas.Bool.Decides.{nat_tests}
 use Rattle.link_model.specs.Link.{is_listed}
@@ -67,4 +68,16 @@ is_listed-here number losses place rises within before from =
       | inr not_above ↦
           (let same : get_or losses place 0 ≡ number = omega arith in
           equal (get_or losses place 0) number same ∙ sym (is_listed-at number losses place within same))
+    ]
+
+-- a number below that of the next loss listed
+pub is_listed-before : (number : ℕ) (losses : List ℕ) (place last : ℕ) → IsStrictlyIncreasing losses → ((i : ℕ) → i < place → get_or losses i 0 < number)
+    → number < get_or losses place last → false ≡ is_listed number losses
+is_listed-before number losses place last rises before under =
+    elim (cases_lt place (length losses)) as (λ _. false ≡ is_listed number losses) [
+      | inl within ↦
+          (let same : get_or losses place last ≡ get_or losses place 0 = get_or_default losses place last 0 within in
+          let other : get_or losses place 0 ≢ number = λ is. omega arith in
+          sym (not_equal (get_or losses place 0) number other) ∙ is_listed-here number losses place rises within before (omega arith))
+      | inr past ↦ sym (is_listed-past number losses place past before)
     ]

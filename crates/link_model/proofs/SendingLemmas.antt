@@ -1,17 +1,16 @@
 -- The sending of a call, packet by packet, against the steps of what a link keeps.
-use Rattle.std.proofs.Common.{◌≡◌, ℕ, zero, suc, ◌+◌, ◌-◌, ◌<◌, ◌≤◌, Bool, true, false, cond, leb, ◌||◌, Some, None, List, [], ◌∷◌, ◌++◌, drop, slice_get, max, refl, ap, sym, ◌∙◌, arith, inl, inr}
+use Rattle.std.proofs.Common.{◌≡◌, ℕ, zero, suc, ◌+◌, ◌-◌, ◌<◌, ◌≤◌, Bool, true, false, cond, leb, ◌||◌, Option, Some, None, List, [], ◌∷◌, ◌++◌, max, refl, ap, sym, ◌∙◌, arith, inl, inr}
 use Rattle.std.proofs.lemmas.Bool.{cases_lt}
 use Rattle.std.proofs.lemmas.Bool.Decides.{nat_tests}
 use Rattle.link_model.specs.declared.link_case.LinkCase.{LinkCase}
 use Rattle.link_model.specs.declared.arrival.Arrival.{Arrival}
-use Rattle.link_model.specs.declared.chance.Chance.{Chance}
-use Rattle.link_model.specs.declared.line.Line.{Line}
-use Rattle.link_model.specs.declared.traffic.Traffic.{Traffic}
+use Rattle.link_model.specs.declared.chance.Coming.{Coming}
 use Rattle.link_model.specs.Traces.{IsTrace}
 use Rattle.link_model.specs.Chances.{chance_number, chance_time, first_chance}
 use Rattle.link_model.specs.Link.{Lost, Served, is_listed, is_marked, arrival_of}
 use Rattle.link_model.specs.Standing.{Standing}
-use Rattle.link_model.specs.LinkMoves.{standing_in, with_lost, with_served, with_fate, with_packet, waiting_now, chance_now, sending}
+use Rattle.link_model.specs.LinkMoves.{with_lost, with_served, with_fate, with_packet, waiting_now, chance_now, sending}
+use Rattle.link_model.specs.Lines.{least_noticed}
 use Rattle.link_model.proofs.ChanceLemmas.{first_chance_le, le_first_chance}
 
 -- ---- the queue at one time, by when a chance comes
@@ -122,36 +121,39 @@ module _ (case : LinkCase) where
 
 -- ---- a packet that is served
 
-abbrev pub served_as : Standing → List Arrival → ℕ → Standing
-served_as standing arrivals chance = record {
+abbrev pub served_as : Standing → List Arrival → ℕ → ℕ → Standing
+served_as standing arrivals chance acked = record {
   time = standing.time;
   past = standing.past;
   arrivals = arrivals;
   lost = 0;
   chance = chance;
   sent = standing.sent + 1;
-  acked = standing.acked;
+  acked = acked;
   calls = standing.calls;
 }
 
-pub served_standing : (case : LinkCase) (old : Traffic) (line : Line) (marked : Bool) (arrivals : List Arrival) (next : Chance)
-    → line.next.at ≡ chance_time case.trace (chance_number case.trace line.next.chance) → chance_number case.trace line.next.chance ≡ chance_now case (standing_in case.trace old) → line.waiting ≡ waiting_now case (standing_in case.trace old)
-    → marked ≡ is_marked case.mark line.waiting → arrivals ≡ old.flight.items ++ record { lost = old.lost; sent_at = old.time; at = line.next.at + case.delay_us; marked = marked } ∷ []
-    → chance_number case.trace next ≡ chance_number case.trace line.next.chance + 1
-    → served_as (standing_in case.trace old) arrivals (chance_number case.trace next)
-    ≡ with_served case (chance_now case (standing_in case.trace old)) (is_marked case.mark (waiting_now case (standing_in case.trace old))) (standing_in case.trace old)
-served_standing case old line marked arrivals next own_is chance_is waits marked_is arrivals_are next_is =
-    let standing = standing_in case.trace old in
+pub served_standing : (case : LinkCase) (standing : Standing) (own : Coming) (marked : Bool) (arrivals : List Arrival) (chance acked : ℕ)
+    → own.at ≡ chance_time case.trace (chance_number case.trace own.chance) → chance_number case.trace own.chance ≡ chance_now case standing
+    → marked ≡ is_marked case.mark (waiting_now case standing) → arrivals ≡ standing.arrivals ++ record { lost = standing.lost; sent_at = standing.time; at = own.at + case.delay_us; marked = marked } ∷ []
+    → chance ≡ chance_number case.trace own.chance + 1 → acked ≡ standing.acked
+    → served_as standing arrivals chance acked ≡ with_served case (chance_now case standing) (is_marked case.mark (waiting_now case standing)) standing
+served_standing case standing own marked arrivals next acked own_is chance_is marked_is arrivals_are next_is acked_is =
     let chance = chance_now case standing in
-    let last : ℕ → Bool → List Arrival = λ at m. old.flight.items ++ record { lost = old.lost; sent_at = old.time; at = at; marked = m } ∷ [] in
-    let at_is : line.next.at + case.delay_us ≡ arrival_of case chance = ap (λ t. t + case.delay_us) own_is ∙ ap (arrival_of case) chance_is in
-    let m_is : marked ≡ is_marked case.mark (waiting_now case standing) = marked_is ∙ ap (is_marked case.mark) waits in
-    let number : chance_number case.trace next ≡ chance + 1 = next_is ∙ ap (λ k. k + 1) chance_is in
-    ap (λ xs. served_as standing xs (chance_number case.trace next)) (arrivals_are ∙ ap (λ t. last t marked) at_is ∙ ap (last (arrival_of case chance)) m_is)
-    ∙ ap (served_as standing (last (arrival_of case chance) (is_marked case.mark (waiting_now case standing)))) number
+    let last : ℕ → Bool → List Arrival = λ at m. standing.arrivals ++ record { lost = standing.lost; sent_at = standing.time; at = at; marked = m } ∷ [] in
+    let at_is : own.at + case.delay_us ≡ arrival_of case chance = ap (λ t. t + case.delay_us) own_is ∙ ap (arrival_of case) chance_is in
+    let number : next ≡ chance + 1 = next_is ∙ ap (λ k. k + 1) chance_is in
+    ap (λ xs. served_as standing xs next acked) (arrivals_are ∙ ap (λ t. last t marked) at_is ∙ ap (last (arrival_of case chance)) marked_is)
+    ∙ ap (λ k. served_as standing (last (arrival_of case chance) (is_marked case.mark (waiting_now case standing))) k acked) number
+    ∙ ap (served_as standing (last (arrival_of case chance) (is_marked case.mark (waiting_now case standing))) (chance + 1)) acked_is
 
--- ---- an acknowledgement
+-- ---- whether a packet is noticed
 
-pub first_of : (arrivals : List Arrival) (first : Arrival) → slice_get arrivals 0 ≡ Some first → arrivals ≡ first ∷ drop 1 arrivals
-first_of [] first is = absurd (let none : None ≡ Some first = is in cc)
-first_of (arrival ∷ rest) first is = (let some : Some arrival ≡ Some first = is in let same : arrival ≡ first = cc in ap (λ x. x ∷ rest) same)
+pub least_noticed-queue : (queue : ℕ) (mark : Option ℕ) → least_noticed queue mark ≤ queue
+least_noticed-queue queue None = omega arith
+least_noticed-queue queue (Some mark) = omega arith
+
+-- if fewer packets wait, the next one isn't marked
+pub least_noticed-mark : (queue waiting : ℕ) (mark : Option ℕ) → waiting < least_noticed queue mark → false ≡ is_marked mark waiting
+least_noticed-mark queue waiting None few = refl
+least_noticed-mark queue waiting (Some mark) few = sym (not_full mark waiting (omega arith))

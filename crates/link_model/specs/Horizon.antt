@@ -1,11 +1,12 @@
 -- How far the times of a link can come: bounds by the packets sent and the calls made, so that its numbers fit.
-use Rattle.std.specs.Prelude.{◌≡◌, ℕ, ◌+◌, ◌*◌, ◌<◌, ◌≤◌, List, [], ◌∷◌, slice_index}
+use Rattle.std.specs.Prelude.{◌≡◌, ℕ, ◌+◌, ◌-◌, ◌*◌, ◌^◌, ◌<◌, ◌≤◌, List, [], ◌∷◌, get_or, slice_index}
 use Rattle.ccp_base.specs.Limits.{most_flight, most_acks, most_delay_us, most_timeout_us}
 use Rattle.link_model.specs.declared.link_case.LinkCase.{LinkCase}
 use Rattle.link_model.specs.declared.arrival.Arrival.{Arrival}
 use Rattle.link_model.specs.declared.traffic.Traffic.{Traffic}
 use Rattle.link_model.specs.Traces.{longest_period, IsTrace}
 use Rattle.link_model.specs.Chances.{chance_time}
+use Rattle.link_model.specs.Rings.{IsRing, arrivals_in}
 use Rattle.link_model.specs.Lines.{IsLine}
 use Rattle.link_model.specs.Standing.{Standing}
 use Rattle.link_model.specs.LinkMoves.{flight_count, standing_in}
@@ -35,20 +36,27 @@ pub record IsTimely (case : LinkCase) (standing : Standing) : Type 0 where
   pub chances : (k : ℕ) → k < standing.chance → chance_time case.trace k ≤ horizon standing.sent standing.calls
   pub arrivals : ArriveWithin (horizon standing.sent standing.calls + case.delay_us) standing.arrivals
 
+-- the number of the loss listed at a place, the greatest one of 64 bits past the last one
+abbrev pub loss_at : List ℕ → ℕ → ℕ
+loss_at losses place = get_or losses place (2 ^ 64 - 1)
+
 -- what a link keeps beside how it stands: the room for packets, the line of those that wait, how many are in flight,
--- and how many of the losses listed have numbers below the next packet's; the next packet arrives after those in flight
+-- how many of the losses listed have numbers below the next packet's, and the loss listed after those; the next packet
+-- arrives after those in flight
 pub record IsKept (case : LinkCase) (traffic : Traffic) : Type 0 where
   pub valid : IsTrace case.trace
-  pub capacity : traffic.flight.capacity ≡ most_flight
-  pub line : IsLine case.trace traffic.time traffic.line
-  pub order : ArriveInOrder traffic.time (traffic.line.next.at + case.delay_us) traffic.flight.items
-  pub count : traffic.in_flight ≡ flight_count traffic.flight.items traffic.lost
+  pub ring : IsRing traffic.flight
+  pub put : traffic.flight.put ≤ traffic.sent
+  pub line : IsLine case traffic.time traffic.flight traffic.line
+  pub order : ArriveInOrder traffic.time (traffic.line.next.at + case.delay_us) (arrivals_in traffic.flight)
+  pub count : traffic.in_flight ≡ flight_count (arrivals_in traffic.flight) traffic.lost
   pub few : traffic.in_flight ≤ most_flight
   pub passed : (i : ℕ) → i < traffic.passed → slice_index case.losses i < traffic.sent
+  pub next_loss : traffic.next_loss ≡ loss_at case.losses traffic.passed
   pub timely : IsTimely case (standing_in case.trace traffic)
 
 -- the counts are within the bounds of the most calls
 pub record IsCounted (traffic : Traffic) : Type 0 where
   pub calls : traffic.calls ≤ most_acks
   pub sent : traffic.sent ≤ most_flight * traffic.calls
-  pub acked : traffic.acked ≤ traffic.calls
+  pub acked : traffic.flight.taken ≤ traffic.calls

@@ -7,6 +7,7 @@ use Rattle.link_model.specs.declared.traffic.Traffic.{Traffic}
 use Rattle.link_model.specs.Chances.{first_chance, chance_number}
 use Rattle.link_model.specs.Link.{Fate, Lost, Served, allowance, is_marked, fate_by, past_in, timeout_ack}
 use Rattle.link_model.specs.Standing.{Standing, arrival_by, packet_ack}
+use Rattle.link_model.specs.Rings.{arrivals_in}
 
 -- how many packets are in flight
 abbrev pub flight_count : List Arrival → ℕ → ℕ
@@ -18,11 +19,11 @@ abbrev pub standing_in : List ℕ → Traffic → Standing
 standing_in times traffic = record {
   time = traffic.time;
   past = traffic.past;
-  arrivals = traffic.flight.items;
+  arrivals = arrivals_in traffic.flight;
   lost = traffic.lost;
   chance = chance_number times traffic.line.next.chance;
   sent = traffic.sent;
-  acked = traffic.acked;
+  acked = traffic.flight.taken;
   calls = traffic.calls;
 }
 

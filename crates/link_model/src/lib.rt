@@ -4,6 +4,7 @@
 mod allowed;
 mod arrival;
 mod chance;
+mod flight;
 mod line;
 mod link;
 mod link_case;

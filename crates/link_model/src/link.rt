@@ -88,21 +88,36 @@ impl Link {
         ensures case { self.new.case ≡ self.old.case }
         ensures calls { self.new.standing.calls ≡ self.old.standing.calls + 1 }
     {
-        self.step(window, rates)
+        let mut ack = Ack::default();
+        self.next_into(window, rates, &mut ack);
+        ack
+    }
+
+    /// As `next_rated`, but the acknowledgement is written into `ack`, so that a caller can keep one place for all of
+    /// its acknowledgements.
+    #[inline(always)]
+    pub fn next_into(&mut self, window: u64, rates: bool, ack: &mut Ack)
+        requires { self.old.standing.calls < most_acks }
+        ensures ack { IsRatedAnswer rates self.old window ack.new }
+        ensures stands { StandsOn self.old window self.new }
+        ensures case { self.new.case ≡ self.old.case }
+        ensures calls { self.new.standing.calls ≡ self.old.standing.calls + 1 }
+    {
+        self.step(window, rates, ack);
     }
 
     #[inline(always)]
-    fn step(&mut self, window: u64, rates: bool) -> Ack
+    fn step(&mut self, window: u64, rates: bool, ack: &mut Ack)
         requires { self.old.standing.calls < most_acks }
         ensures valid { IsTrace self.old.case.trace }
         ensures case { self.new.case ≡ self.old.case }
-        ensures ack { result ≡ rated rates (next_ack self.old.case window self.old.standing) }
+        ensures ack { ack.new ≡ rated rates (next_ack self.old.case window self.old.standing) }
         ensures standing { self.new.standing ≡ next_standing self.old.case window self.old.standing }
         ensures calls { self.new.standing.calls ≡ self.old.standing.calls + 1 }
     {
         let most = self.allowed.by(&self.case, window);
         let more = most.saturating_sub(self.traffic.in_flight);
         self.traffic.send(&self.case, more);
-        self.traffic.acknowledge(&self.case, rates)
+        self.traffic.acknowledge(&self.case, rates, ack);
     }
 }

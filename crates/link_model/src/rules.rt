@@ -5,13 +5,15 @@ ghost use Rattle.ccp_base.specs.Limits.{most_flight, most_segment_bytes};
 ghost use Rattle.link_model.specs.Link.{allowance_of, allowance, byte_rate, is_marked, is_listed, number_if, arrival_ack_of, timeout_ack_of, timeout_ack, run_of};
 ghost use Rattle.link_model.specs.Standing.{packet_ack};
 ghost use Rattle.link_model.specs.Rated.{rated};
+ghost use Rattle.link_model.specs.Lines.{least_noticed};
+ghost use Rattle.link_model.specs.Horizon.{loss_at};
 ghost use Rattle.link_model.specs.Counts.{AreOnce, AddUp, most_packets};
 ghost use Rattle.link_model.specs.Runs.{AreInOrder, AreSampled, AllFindRoom};
 
 use crate::arrival::Arrival;
+use crate::flight::PACKETS;
 use crate::link_case::LinkCase;
 use crate::past::Past;
-use crate::traffic::PACKETS;
 use ccp_base::Ack;
 
 impl LinkCase {
@@ -40,6 +42,29 @@ impl LinkCase {
         ensures from { result < length self.now.losses → number ≤ slice_index self.now.losses result }
     {
         next_loss(self.losses.as_slice(), passed, number)
+    }
+
+    /// The number of the listed loss at a place, or 2^64 - 1 if there is none.
+    #[inline]
+    pub(crate) fn loss_at(&self, place: usize) -> u64
+        ensures { result ≡ loss_at self.now.losses place }
+    {
+        match self.losses.as_slice().get(place) {
+            Some(loss) => u64::from(*loss),
+            None => u64::MAX,
+        }
+    }
+
+    /// How many packets must wait at least for the next one to be lost or marked.
+    #[inline]
+    pub(crate) fn least_noticed(&self) -> u64
+        ensures value { result ≡ least_noticed self.now.queue self.now.mark }
+        ensures within { result ≤ most_flight }
+    {
+        match self.mark {
+            Some(mark) => u64::from(self.queue.min(mark)),
+            None => u64::from(self.queue),
+        }
     }
 
     /// Whether `number` is listed. The losses before `place` must be below it, and the one there must not be.

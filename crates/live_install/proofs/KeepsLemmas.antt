@@ -6,6 +6,8 @@ use Rattle.std.proofs.lemmas.Option.{none-some, slice_get_within, slice_get-map}
 use Rattle.ccp_base.specs.declared.ack.Ack.{Ack}
 use Rattle.ccp_base.specs.declared.place.Place.{Place}
 use Rattle.ccp_base.specs.declared.exchange.Notice.{Notice}
+use Rattle.ccp_base.specs.RunningEpochs.{reporter, first_in, epochs_in, epoch_after}
+use Rattle.ccp_base.specs.declared.running_epoch.RunningEpoch.{RunningEpoch}
 use Rattle.portus_core.specs.Programs.{Form}
 use Rattle.portus_core.specs.ProgramForm.{form_of}
 use Rattle.portus_core.specs.OneAcknowledgement.{IsEnvOf}
@@ -20,10 +22,9 @@ use Rattle.fold_machine.specs.MachineState.{MachineState}
 use Rattle.fold_machine.specs.Heard.{started_by}
 use Rattle.link_model.specs.Standing.{LinkState, Stands}
 use Rattle.flow_core.specs.declared.book.EpochLine.{EpochLine}
-use Rattle.flow_core.specs.declared.running_epoch.RunningEpoch.{RunningEpoch}
 use Rattle.flow_core.specs.Readings.{env_of}
 use Rattle.flow_core.specs.ReservedLists.{ReservedState}
-use Rattle.flow_core.specs.World.{Failure, with_event, reporter, failures_met}
+use Rattle.flow_core.specs.World.{Failure, with_event, failures_met}
 use Rattle.flow_core.specs.Books.{epoch_line}
 use Rattle.flow_core.proofs.SimulatedEpochs.{IsEnvOf-after, declared-simulated}
 use Rattle.flow_core.proofs.SummaryLemmas.{time-append}
@@ -37,7 +38,7 @@ use Rattle.live_install.specs.OpenWorld.{Installed, Running, OpenWorld, track_of
 use Rattle.live_install.specs.BuiltTexts.{form_or_refusal, built_of}
 use Rattle.live_install.specs.Entries.{installed_of, built_entry, built_at, entry_place}
 use Rattle.live_install.specs.OpenBooks.{Seen, failure_at, seen_of, seen_as}
-use Rattle.live_install.specs.States.{first_in, epochs_in, epoch_after, kept_track, next_from, ArePassed, Runs, RunsEpoch, FitsBuilt, FitsAt, Keeps}
+use Rattle.live_install.specs.States.{kept_track, next_from, ArePassed, Runs, RunsEpoch, FitsBuilt, FitsAt, Keeps}
 use Rattle.live_install.proofs.ListLemmas.{slice_get-front}
 use Rattle.live_install.proofs.NextLemmas.{was_started-same, passed-more, passed-push, next-entry}
 

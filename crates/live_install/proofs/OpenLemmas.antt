@@ -5,6 +5,8 @@ use Rattle.std.proofs.lemmas.List.{length-map}
 use Rattle.std.proofs.lemmas.Bool.{lt-ltb}
 use Rattle.std.proofs.lemmas.Option.{none-some, slice_get_within}
 use Rattle.ccp_base.specs.declared.ack.Ack.{Ack}
+use Rattle.ccp_base.specs.declared.running_epoch.RunningEpoch.{RunningEpoch}
+use Rattle.ccp_base.specs.RunningEpochs.{epochs_in}
 use Rattle.portus_core.specs.Programs.{Form}
 use Rattle.portus_core.specs.OneAcknowledgement.{IsEnvOf}
 use Rattle.portus_core.specs.Epoch.{Track}
@@ -15,7 +17,6 @@ use Rattle.fold_machine.specs.declared.acked.Acked.{Acked}
 use Rattle.link_model.specs.Link.{ack_after}
 use Rattle.link_model.specs.Standing.{LinkState, Stands}
 use Rattle.flow_core.specs.declared.book.EpochLine.{EpochLine}
-use Rattle.flow_core.specs.declared.running_epoch.RunningEpoch.{RunningEpoch}
 use Rattle.flow_core.specs.ReservedLists.{ReservedState}
 use Rattle.flow_core.specs.Cores.{ran_by}
 use Rattle.live_install.specs.declared.account.Account.{Account}
@@ -29,7 +30,7 @@ use Rattle.live_install.specs.OpenWords.{after_letter, install_world, next_ack, 
 use Rattle.live_install.specs.BuiltTexts.{Answers}
 use Rattle.live_install.specs.Entries.{installed_of, built_at, AreStepsFrom}
 use Rattle.live_install.specs.OpenCells.{HasOutcome, AnswersTo, ran_with, ran_in, next_step}
-use Rattle.live_install.specs.States.{cell_of, world_of, kept_track, epochs_in, next_from, RunsEpoch, Runs, FitsAt, FitsBuilt, faults_left, form_at, Keeps, IsFit, IsOpen}
+use Rattle.live_install.specs.States.{cell_of, world_of, kept_track, next_from, RunsEpoch, Runs, FitsAt, FitsBuilt, faults_left, form_at, Keeps, IsFit, IsOpen}
 use Rattle.live_install.proofs.LetterLemmas.{world-append, legal-append}
 use Rattle.live_install.proofs.KeepsLemmas.{counted_state, keeps-counted, keeps-heard, put_state, keeps-put, fits-more, after-program, after-number, started_state, keeps-started}
 use Rattle.live_install.proofs.ListLemmas.{steps-push}

@@ -4,20 +4,21 @@ use Rattle.std.proofs.Common.{ap, sym, ◌∙◌, subst, arith, length-append}
 use Rattle.std.proofs.lemmas.List.{map-append, length-map}
 use Rattle.ccp_base.specs.declared.ack.Ack.{Ack}
 use Rattle.ccp_base.specs.declared.arithmetic.FaultKind.{FaultKind}
+use Rattle.ccp_base.specs.RunningEpochs.{Reporter, reporter}
+use Rattle.ccp_base.specs.declared.running_epoch.RunningEpoch.{RunningEpoch}
 use Rattle.portus_core.specs.declared.env.Env.{Env}
 use Rattle.portus_core.specs.Programs.{Form}
 use Rattle.portus_core.specs.ProgramForm.{form_of}
 use Rattle.portus_core.specs.OneAcknowledgement.{IsEnvOf}
 use Rattle.portus_core.specs.Value.{Cause}
 use Rattle.portus_core.specs.Epoch.{Outcome, quiet, reported, held, failed, stopped, Track, heard, stops}
-use Rattle.portus_core.specs.Reports.{Reporter, reports_met}
+use Rattle.portus_core.specs.Reports.{reports_met}
 use Rattle.reg_compiler.specs.declared.built.Built.{Built}
 use Rattle.fold_machine.specs.declared.acked.Acked.{Acked}
 use Rattle.fold_machine.specs.MachineState.{MachineState}
-use Rattle.flow_core.specs.declared.running_epoch.RunningEpoch.{RunningEpoch}
 use Rattle.flow_core.specs.Readings.{env_of, by_code}
 use Rattle.flow_core.specs.States.{outcome_by}
-use Rattle.flow_core.specs.World.{reporter, failures_met, notice_with}
+use Rattle.flow_core.specs.World.{failures_met, notice_with}
 use Rattle.live_install.specs.declared.account.Account.{Account}
 use Rattle.live_install.specs.declared.entry.Entry.{Entry}
 use Rattle.live_install.specs.Entries.{built_at}

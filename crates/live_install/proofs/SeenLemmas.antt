@@ -6,6 +6,7 @@ use Rattle.ccp_base.specs.declared.ack.Ack.{Ack}
 use Rattle.ccp_base.specs.declared.arithmetic.FaultKind.{FaultKind}
 use Rattle.ccp_base.specs.declared.exchange.Report.{Report}
 use Rattle.ccp_base.specs.declared.place.Place.{Place}
+use Rattle.ccp_base.specs.RunningEpochs.{Reporter}
 use Rattle.portus_core.specs.declared.env.Env.{Env}
 use Rattle.portus_core.specs.declared.env.Mean.{Mean}
 use Rattle.portus_core.specs.declared.env.Mean.TheVariants.{Fault}
@@ -14,7 +15,7 @@ use Rattle.portus_core.specs.Value.{Cause}
 use Rattle.portus_core.specs.OneAcknowledgement.{IsEnvOf}
 use Rattle.portus_core.specs.Epoch as epoch
 use Rattle.portus_core.specs.Epoch.{Outcome, quiet, reported, held, failed, stopped, Track, by_source, heard, stops, next_first}
-use Rattle.portus_core.specs.Reports.{Reporter, reports_met}
+use Rattle.portus_core.specs.Reports.{reports_met}
 use Rattle.reg_code.specs.declared.code.Code.{Code}
 use Rattle.reg_code.specs.CodeStep as steps
 use Rattle.reg_compiler.specs.declared.built.Built.{Built}

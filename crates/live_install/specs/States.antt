@@ -1,6 +1,8 @@
 -- What a flow of a rollout keeps, and what holds of it: it is the state after the flow's word.
 use Rattle.std.specs.Prelude.{◌≡◌, ℕ, ◌+◌, ◌<◌, ◌≤◌, Bool, true, false, Option, Some, None, option_map, Ok, ⊤}
 use Rattle.std.specs.Prelude.{List, length, map, position, slice_get}
+use Rattle.ccp_base.specs.declared.running_epoch.RunningEpoch.{RunningEpoch}
+use Rattle.ccp_base.specs.RunningEpochs.{opening_epoch, next_epoch, epochs_in, first_in}
 use Rattle.portus_core.specs.Programs.{Form}
 use Rattle.portus_core.specs.ProgramForm.{form_of}
 use Rattle.portus_core.specs.OneAcknowledgement.{IsEnvOf}
@@ -8,9 +10,7 @@ use Rattle.portus_core.specs.Epoch.{Track}
 use Rattle.reg_compiler.specs.declared.built.Built.{Built}
 use Rattle.fold_machine.specs.MachineState.{MachineState, Fits}
 use Rattle.link_model.specs.Standing.{Stands}
-use Rattle.flow_core.specs.declared.running_epoch.RunningEpoch.{RunningEpoch}
 use Rattle.flow_core.specs.Readings.{env_of}
-use Rattle.flow_core.specs.RunningEpochs.{opening_epoch, next_epoch}
 use Rattle.flow_core.specs.World.{Era, time_of}
 use Rattle.flow_core.specs.Books.{epoch_line}
 use Rattle.live_install.specs.declared.entry.Entry.{Entry}
@@ -36,21 +36,6 @@ world_of s = install_world s.case s.word.items
 -- its step
 abbrev pub step_of : Option RunningEpoch → Option ℕ
 step_of running = option_map (λ (epoch : RunningEpoch). epoch.program) running
-
--- where its unreported span begins
-abbrev pub first_in : Option RunningEpoch → ℕ
-first_in None = 0
-first_in (Some epoch) = epoch.first
-
--- how many epochs there are with it
-abbrev pub epochs_in : Option RunningEpoch → ℕ
-epochs_in None = 0
-epochs_in (Some epoch) = epoch.number + 1
-
--- the epoch that a change to a step begins after this many acknowledgements
-abbrev pub epoch_after : Option RunningEpoch → ℕ → ℕ → RunningEpoch
-epoch_after None step acks = opening_epoch step acks
-epoch_after (Some epoch) step acks = next_epoch step acks epoch
 
 -- where the kept flow stands
 abbrev pub kept_track : State → Track

@@ -6,8 +6,8 @@ ghost use Rattle.flow_core.specs.Readings.{env_of};
 ghost use Rattle.flow_core.specs.States.{outcome_by};
 ghost use Rattle.live_install.specs.Accounts.{met_as, IsMet, ran_on, HasPlaceFor, RecordsOutcome};
 
-use ccp_base::{Ack, Notice, Report};
-use flow_core::{ReservedList, RunningEpoch};
+use ccp_base::{Ack, Notice, Report, RunningEpoch};
+use flow_core::ReservedList;
 use fold_machine::{Acked, Machine, Steps};
 use reg_code::Checked;
 use std::sync::ledger::Ledger;
@@ -57,8 +57,7 @@ impl Account {
             Acked::Reported => self.record_report(epoch, flow, at, machine, ack),
             Acked::Faulted(kind, index) => {
                 let cwnd = machine.cwnd();
-                self.faults
-                    .push(epoch.notice(flow, at, ack, cwnd, kind, index));
+                self.faults.push(epoch.notice(flow, u64::from(at), ack.now, cwnd, kind, index));
             }
         }
     }
@@ -79,7 +78,7 @@ impl Account {
         let cwnd = machine.cwnd();
         let rate = machine.rate();
         let fields = machine.reported();
-        let report = epoch.report(flow, at, ack, cwnd, rate, &fields);
+        let report = epoch.report(flow, u64::from(at) + 1, ack.now, cwnd, rate, &fields);
         self.reports.push(report);
     }
 }

@@ -8,7 +8,7 @@ use crate::account::run_ack;
 use crate::entry::Entry;
 use crate::letter::OpenLetter;
 use crate::state::State;
-use flow_core::RunningEpoch;
+use ccp_base::RunningEpoch;
 use fold_machine::{Acked, Steps};
 use reg_compiler::Built;
 use std::sync::ledger::Ledger;

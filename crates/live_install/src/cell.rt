@@ -1,20 +1,20 @@
 //! A flow of a rollout: acknowledgements, installed entries and changes, each a letter of its word.
 ghost use Rattle.std.specs.Prelude.{◌≡◌, ◌+◌, ◌<◌, ◌≤◌, ◌↔◌, ◌∷◌, [], ◌++◌, true, Some, None, slice_get, length, map};
 ghost use Rattle.std.specs.Prelude.{IsTrue, IsOk, IsErr, IfOk, IfErr, OnOk, OnErr};
+ghost use Rattle.ccp_base.specs.RunningEpochs.{first_in};
 ghost use Rattle.live_install.specs.OpenWords.{legal, is_complete};
 ghost use Rattle.live_install.specs.Entries.{installed_of};
 ghost use Rattle.live_install.specs.OpenBooks.{IsOpenBookOf};
 ghost use Rattle.live_install.specs.OpenCells.{world_at, IsAfter, is_legal_at, HasAll, IsComplete, most_letters};
 ghost use Rattle.live_install.specs.OpenCells.{IsNextEntry, with_entry, AnswersAck, ran_at, next_step};
-ghost use Rattle.live_install.specs.States.{first_in};
 
 use crate::account::Account;
 use crate::book::OpenBook;
 use crate::entry::Entry;
 use crate::letter::OpenLetter;
 use crate::state::State;
-use ccp_base::{Bytes, NoMemory, same_bytes};
-use flow_core::{Ended, RunningEpoch};
+use ccp_base::{Bytes, NoMemory, RunningEpoch, same_bytes};
+use flow_core::Ended;
 use fold_machine::{Acked, Steps};
 use scene_members::OpenCase;
 use std::alloc::Global;

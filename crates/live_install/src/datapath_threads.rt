@@ -1,15 +1,16 @@
 //! The threads of datapath workers, begun.
 
 ghost use Rattle.std.specs.Prelude.{◌≡◌, map, IfOk, length};
-ghost use Rattle.flow_table.specs.Duties.{duty_of, duty, duties};
+ghost use Rattle.worker_desk.specs.Works.{duty_of, duties};
+ghost use Rattle.flow_table.specs.Duties.{duty};
 
 use crate::cell::OpenCell;
 use ccp_base::{Gate, NoMemory, Workers};
-use flow_table::{FlowTable, NoNudges, Serving, run_datapath_worker};
+use flow_table::{FlowTable, NoNudges, run_datapath_worker};
 use std::alloc::Global;
 use std::sync::Wait;
 use std::thread::{Scope, Threads};
-use worker_desk::{Duty, Served};
+use worker_desk::{DatapathShare, Duty, Served, Work};
 
 /// Begins the work of the datapath workers, in order.
 pub(crate) fn begin_all<'s, 'e, R: Threads + Wait + Sync, G: Gate + Sync>(
@@ -19,15 +20,16 @@ pub(crate) fn begin_all<'s, 'e, R: Threads + Wait + Sync, G: Gate + Sync>(
     table: &'e FlowTable<OpenCell>,
     datapaths: Workers,
     gate: &'e G,
-) -> Result<Vec<Serving>, NoMemory>
-    ensures { IfOk result (λ all. map duty_of all.items ≡ duties datapaths.count (length table.now) datapaths.count) }
+) -> Result<Vec<Work<DatapathShare>>, NoMemory>
+    ensures { IfOk result (λ all. map duty_of all.items
+        ≡ duties (duty datapaths.count (length table.now)) datapaths.count) }
 {
-    let mut servings = Vec::new(alloc);
+    let mut works = Vec::new(alloc);
     for worker in 0..datapaths.count() {
-        let serving = begin(scope, rt, table, datapaths, worker, gate);
-        servings.push(serving)?;
+        let work = begin(scope, rt, table, datapaths, worker, gate);
+        works.push(work)?;
     }
-    Ok(servings)
+    Ok(works)
 }
 
 /// Begins the work of a datapath worker. If no thread can be started for it, it is done here.
@@ -38,14 +40,15 @@ fn begin<'s, 'e, R: Threads + Wait + Sync, G: Gate + Sync>(
     datapaths: Workers,
     worker: u32,
     gate: &'e G,
-) -> Serving
+) -> Work<DatapathShare>
     ensures { duty_of result ≡ duty datapaths.count (length table.now) worker }
 {
     let promise = Duty {
         worker,
-        first: worker,
-        workers: datapaths.count(),
         flows: table.flows(),
+        share: DatapathShare {
+            workers: datapaths.count(),
+        },
     };
     let started = scope.spawn_with(
         promise,
@@ -54,7 +57,7 @@ fn begin<'s, 'e, R: Threads + Wait + Sync, G: Gate + Sync>(
         { run_datapath_worker(rt, table, datapaths, worker, &NoNudges, gate) },
     );
     match started {
-        Ok(handle) => Serving::Thread(handle),
-        Err(_) => Serving::Here(run_datapath_worker(rt, table, datapaths, worker, &NoNudges, gate)),
+        Ok(handle) => Work::Thread(handle),
+        Err(_) => Work::Here(run_datapath_worker(rt, table, datapaths, worker, &NoNudges, gate)),
     }
 }

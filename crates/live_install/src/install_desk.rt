@@ -13,6 +13,7 @@ use flow_table::FlowTable;
 use scene_members::OpenCase;
 use std::alloc::Global;
 use std::sync::{MutexGuard, Wait};
+use worker_desk::LockDesk;
 
 /// What the texts of a flow are built from.
 #[derive(Clone, Copy)]
@@ -41,16 +42,9 @@ pub(crate) struct InstallDesk<'a, R: Wait, G: Gate> {
     pub(crate) held: Option<MutexGuard<'a, OpenCell>>,
 }
 
-impl<'a, R: Wait, G: Gate> worker_desk::InstallDesk for InstallDesk<'a, R, G> {
-    ghost use Rattle.std.specs.Prelude.{◌≡◌, Some, None, length, slice_get};
+impl<'a, R: Wait, G: Gate> LockDesk for InstallDesk<'a, R, G> {
+    ghost use Rattle.std.specs.Prelude.{◌≡◌, Some, None, length};
     ghost use Rattle.flow_table.specs.HeldFlows.{number_held, OfHeld};
-    ghost use Rattle.live_install.specs.Installing.{IsTextOf, HasInstalled, HasChanged};
-
-    type Source = TextSource<'a>;
-
-    type Text = BuiltText;
-
-    type Entry = Entry;
 
     type Guard = MutexGuard<'a, OpenCell>;
 
@@ -59,6 +53,41 @@ impl<'a, R: Wait, G: Gate> worker_desk::InstallDesk for InstallDesk<'a, R, G> {
     ghost held = { λ d. number_held (λ cell. cell.case.flow) d.held };
 
     ghost flows = { λ d. length d.table.now };
+
+    ghost HasKept = { λ old new. OfHeld (λ before after. after ≡ before) old.held new.held };
+
+    ghost HasReleased = { λ old guard. old.held ≡ Some guard };
+
+    fn flow_count(&self) -> u32 {
+        self.table.flows()
+    }
+
+    fn lock(&mut self, flow: u32) {
+        self.held = Some(self.table.lock(self.rt, flow));
+    }
+
+    fn unlock(&mut self, _flow: u32) -> MutexGuard<'a, OpenCell> {
+        let Some(guard) = self.held.take() else {
+            unreachable!()
+        };
+        guard
+    }
+
+    fn pass(&mut self, worker: u32, point: Point, flow: u32) {
+        self.gate.pass(worker, point, flow);
+    }
+}
+
+impl<'a, R: Wait, G: Gate> worker_desk::InstallDesk for InstallDesk<'a, R, G> {
+    ghost use Rattle.std.specs.Prelude.{◌≡◌, Some, None, slice_get};
+    ghost use Rattle.flow_table.specs.HeldFlows.{OfHeld};
+    ghost use Rattle.live_install.specs.Installing.{IsTextOf, HasInstalled, HasChanged};
+
+    type Source = TextSource<'a>;
+
+    type Text = BuiltText;
+
+    type Entry = Entry;
 
     ghost flow_from = { λ source. source.flow };
 
@@ -82,14 +111,6 @@ impl<'a, R: Wait, G: Gate> worker_desk::InstallDesk for InstallDesk<'a, R, G> {
     ghost HasChanged = { λ old new changed.
         OfHeld (λ before after. HasChanged before after changed) old.held new.held };
 
-    ghost HasKept = { λ old new. OfHeld (λ before after. after ≡ before) old.held new.held };
-
-    ghost HasReleased = { λ old guard. old.held ≡ Some guard };
-
-    fn flow_count(&self) -> u32 {
-        self.table.flows()
-    }
-
     fn source(&self, flow: u32) -> TextSource<'a> {
         TextSource {
             alloc: self.alloc,
@@ -111,17 +132,6 @@ impl<'a, R: Wait, G: Gate> worker_desk::InstallDesk for InstallDesk<'a, R, G> {
         text.entry
     }
 
-    fn lock(&mut self, flow: u32) {
-        self.held = Some(self.table.lock(self.rt, flow));
-    }
-
-    fn unlock(&mut self, _flow: u32) -> MutexGuard<'a, OpenCell> {
-        let Some(guard) = self.held.take() else {
-            unreachable!()
-        };
-        guard
-    }
-
     fn install(&mut self, _flow: u32, entry: Entry) -> bool {
         let Some(mut guard) = self.held.take() else {
             unreachable!()
@@ -138,10 +148,6 @@ impl<'a, R: Wait, G: Gate> worker_desk::InstallDesk for InstallDesk<'a, R, G> {
         let changed = guard.change().is_ok();
         self.held = Some(guard);
         changed
-    }
-
-    fn pass(&mut self, worker: u32, point: Point, flow: u32) {
-        self.gate.pass(worker, point, flow);
     }
 }
 

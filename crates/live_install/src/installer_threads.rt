@@ -1,7 +1,8 @@
-//! The threads of installers, begun and ended.
+//! The threads of installers, begun.
 
 ghost use Rattle.std.specs.Prelude.{◌≡◌, ◌<◌, map, IfOk, length};
-ghost use Rattle.live_install.specs.Crews.{install_duty_of, install_duty, install_duties};
+ghost use Rattle.worker_desk.specs.Works.{duty_of, duties};
+ghost use Rattle.live_install.specs.Crews.{install_duty};
 
 use crate::cell::OpenCell;
 use crate::installer::run_installer;
@@ -9,17 +10,8 @@ use ccp_base::{Gate, NoMemory};
 use flow_table::{FlowTable, WorkerCounts};
 use std::alloc::Global;
 use std::sync::Wait;
-use std::thread::{PromisedHandle, Scope, Threads};
-use worker_desk::{Duty, Equipped};
-
-/// The work of an installer, which goes on in a thread or was done here.
-#[derive(Drop)]
-pub(crate) enum InstallerWork {
-    /// In a thread.
-    Thread(PromisedHandle<Equipped, Duty>),
-    /// Done.
-    Here(Equipped),
-}
+use std::thread::{Scope, Threads};
+use worker_desk::{Duty, Equipped, InstallerShare, Work};
 
 /// Begins the work of the installers, in order.
 pub(crate) fn begin_all<'s, 'e, R: Threads + Wait + Sync, G: Gate + Sync>(
@@ -29,9 +21,9 @@ pub(crate) fn begin_all<'s, 'e, R: Threads + Wait + Sync, G: Gate + Sync>(
     table: &'e FlowTable<OpenCell>,
     workers: WorkerCounts,
     gate: &'e G,
-) -> Result<Vec<InstallerWork>, NoMemory>
-    ensures { IfOk result (λ all. map install_duty_of all.items
-        ≡ install_duties workers.datapaths.count workers.agents.count (length table.now) workers.agents.count) }
+) -> Result<Vec<Work<InstallerShare>>, NoMemory>
+    ensures { IfOk result (λ all. map duty_of all.items
+        ≡ duties (install_duty workers.datapaths.count workers.agents.count (length table.now)) workers.agents.count) }
 {
     let mut works = Vec::new(alloc);
     for agent in 0..workers.agents.count() {
@@ -50,16 +42,18 @@ fn begin<'s, 'e, R: Threads + Wait + Sync, G: Gate + Sync>(
     workers: WorkerCounts,
     agent: u32,
     gate: &'e G,
-) -> InstallerWork
+) -> Work<InstallerShare>
     requires { agent < workers.agents.count }
-    ensures { install_duty_of result
+    ensures { duty_of result
         ≡ install_duty workers.datapaths.count workers.agents.count (length table.now) agent }
 {
     let promise = Duty {
         worker: workers.datapaths.count() + agent,
-        first: agent,
-        workers: workers.agents.count(),
         flows: table.flows(),
+        share: InstallerShare {
+            first: agent,
+            workers: workers.agents.count(),
+        },
     };
     let started = scope.spawn_with(
         promise,
@@ -70,34 +64,7 @@ fn begin<'s, 'e, R: Threads + Wait + Sync, G: Gate + Sync>(
         { run_installer(rt, alloc, table, workers, agent, gate) },
     );
     match started {
-        Ok(handle) => InstallerWork::Thread(handle),
-        Err(_) => InstallerWork::Here(run_installer(rt, alloc, table, workers, agent, gate)),
+        Ok(handle) => Work::Thread(handle),
+        Err(_) => Work::Here(run_installer(rt, alloc, table, workers, agent, gate)),
     }
-}
-
-/// The end of an installer's work.
-fn end<R: Threads>(rt: &R, work: InstallerWork) -> Equipped
-    ensures { result ≡ install_duty_of work }
-{
-    match work {
-        InstallerWork::Thread(handle) => handle.join(rt),
-        InstallerWork::Here(equipped) => equipped,
-    }
-}
-
-/// The ends of the installers' work, in order.
-pub(crate) fn end_all<R: Threads>(
-    rt: &R,
-    alloc: Global,
-    works: Vec<InstallerWork>,
-) -> Result<Vec<Equipped>, NoMemory>
-    ensures { IfOk result (λ all. all.items ≡ map install_duty_of works.items) }
-{
-    let mut left = works;
-    let mut all = Vec::new(alloc);
-    while !left.is_empty() {
-        let work = left.remove(0);
-        all.push(end(rt, work))?;
-    }
-    Ok(all)
 }

@@ -4,15 +4,15 @@ ghost use Rattle.std.specs.Option.{ForSome};
 ghost use Rattle.ccp_base.specs.Limits.{most_steps};
 ghost use Rattle.live_install.specs.BuiltTexts.{Answers};
 ghost use Rattle.live_install.specs.OpenCells.{next_step};
-ghost use Rattle.live_install.specs.States.{next_from, epochs_in, epoch_after, first_accepted, accepted_from};
+ghost use Rattle.live_install.specs.States.{next_from, first_accepted, accepted_from};
 ghost use Rattle.live_install.specs.States.{cell_of, IsOpen};
 
 use crate::advance::built_at;
 use crate::entry::Entry;
 use crate::letter::OpenLetter;
 use crate::state::State;
-use ccp_base::Fields;
-use flow_core::RunningEpoch;
+use ccp_base::{Fields, RunningEpoch};
+use flow_core::EpochLine;
 
 /// The place of the first accepted one of these entries.
 // for the prover: the goal of `position` stays open before a `?`
@@ -43,17 +43,6 @@ fn next_from(running: Option<RunningEpoch>) -> u32
     }
 }
 
-/// The epoch that a change to this step begins after `acks` acknowledgements.
-fn epoch_after(running: Option<RunningEpoch>, step: u32, acks: u32) -> RunningEpoch
-    requires { epochs_in running ≤ most_steps }
-    ensures { result ≡ epoch_after running step acks }
-{
-    match running {
-        Some(epoch) => epoch.next(step, acks),
-        None => RunningEpoch::opening(step, acks),
-    }
-}
-
 impl State {
     /// The step of the first accepted entry that hasn't been started; None if and only if there is none.
     pub(crate) fn next_step(&self) -> Option<u32>
@@ -79,8 +68,9 @@ impl State {
         let Ok(()) = self.machine.start(&built.code, &Fields::new(), self.time) else {
             unreachable!()
         };
-        let epoch = epoch_after(self.running, step, self.acks);
-        self.epochs.push(epoch.line(self.acks, self.machine.cwnd()));
+        let epoch = RunningEpoch::after(self.running, step, u64::from(self.acks));
+        let line = EpochLine::of(&epoch, self.acks, self.machine.cwnd());
+        self.epochs.push(line);
         self.running = Some(epoch);
         self.word.push(OpenLetter::G);
     }

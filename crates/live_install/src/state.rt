@@ -2,7 +2,8 @@
 use crate::account::Account;
 use crate::entry::Entry;
 use crate::letter::OpenLetter;
-use flow_core::{EpochLine, ReservedList, RunningEpoch};
+use ccp_base::RunningEpoch;
+use flow_core::{EpochLine, ReservedList};
 use fold_machine::Machine;
 use link_model::Link;
 use scene_members::OpenCase;

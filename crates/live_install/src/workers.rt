@@ -6,11 +6,12 @@ use crate::cell::OpenCell;
 use crate::crew::Crew;
 use crate::{datapath_threads, installer_threads};
 use ccp_base::{Gate, NoMemory};
-use flow_table::{FlowTable, WorkerCounts, end_serving};
+use flow_table::{FlowTable, WorkerCounts};
 use std::alloc::Global;
 use std::sync::Wait;
 use std::thread;
 use std::thread::Threads;
+use worker_desk::end_all;
 
 /// The workers over the flows of a table, until the work of each of them is done. That of a worker for which no thread
 /// can be started is done here.
@@ -39,8 +40,8 @@ pub(crate) fn run_workers<R: Threads + Wait + Sync, G: Gate + Sync>(
                 workers.datapaths,
                 gate,
             )?;
-            let equipped = installer_threads::end_all(rt, alloc, works)?;
-            let served = end_serving(rt, alloc, servings)?;
+            let equipped = end_all(rt, alloc, works)?;
+            let served = end_all(rt, alloc, servings)?;
             Ok(Crew { served, equipped })
         },
     )

@@ -1,5 +1,5 @@
 //! What agent workers do.
-ghost use Rattle.std.specs.Prelude.{◌≡◌, ◌++◌, [], ◌∷◌, Some, None, IfOk};
+ghost use Rattle.std.specs.Prelude.{◌≡◌, ◌≤◌, ◌++◌, [], ◌∷◌, Some, None, IfOk};
 ghost use Rattle.worker_desk.specs.declared.event.Event.TheVariants.{Took};
 ghost use Rattle.worker_desk.specs.Attending.{Attends};
 
@@ -10,7 +10,7 @@ use reno_agent::Reno;
 use std::alloc::Global;
 use std::process::Abort;
 use std::test::Fail;
-use worker_desk::{AgentDesk, Event, run_agent_worker};
+use worker_desk::{AgentDesk, Event, LockDesk, run_agent_worker};
 
 /// A desk whose numbers and tickets come from lists.
 #[derive(Drop)]
@@ -23,9 +23,10 @@ struct TicketDesk<'a, R: Abort> {
     tickets: Vec<Option<Ticket>>,
     events: Vec<Event>,
     held: Option<u32>,
+    ghost few: { flows ≤ 64 },
 }
 
-impl<'a, R: Abort> AgentDesk for TicketDesk<'a, R> {
+impl<'a, R: Abort> LockDesk for TicketDesk<'a, R> {
     ghost use Rattle.std.specs.Prelude.{Some, vec_len};
 
     type Guard = u32;
@@ -42,12 +43,6 @@ impl<'a, R: Abort> AgentDesk for TicketDesk<'a, R> {
         self.flows
     }
 
-    fn receive(&mut self) -> Option<u32> {
-        let number = self.numbers.pop();
-        keep(self.rt, &mut self.events, Event::Received(number));
-        number
-    }
-
     fn lock(&mut self, flow: u32) {
         keep(self.rt, &mut self.events, Event::Locked(flow));
         self.held = Some(flow);
@@ -57,6 +52,22 @@ impl<'a, R: Abort> AgentDesk for TicketDesk<'a, R> {
         keep(self.rt, &mut self.events, Event::Unlocked(flow));
         self.held = None;
         flow
+    }
+
+    fn pass(&mut self, worker: u32, point: Point, flow: u32) {
+        keep(
+            self.rt,
+            &mut self.events,
+            Event::Passed(worker, point, flow),
+        );
+    }
+}
+
+impl<'a, R: Abort> AgentDesk for TicketDesk<'a, R> {
+    fn receive(&mut self) -> Option<u32> {
+        let number = self.numbers.pop();
+        keep(self.rt, &mut self.events, Event::Received(number));
+        number
     }
 
     fn take(&mut self, flow: u32) -> Option<Ticket> {
@@ -70,14 +81,6 @@ impl<'a, R: Abort> AgentDesk for TicketDesk<'a, R> {
             self.rt,
             &mut self.events,
             Event::Settled(flow, *answer.ticket()),
-        );
-    }
-
-    fn pass(&mut self, worker: u32, point: Point, flow: u32) {
-        keep(
-            self.rt,
-            &mut self.events,
-            Event::Passed(worker, point, flow),
         );
     }
 }

@@ -9,7 +9,7 @@ use ccp_base::Point;
 use std::alloc::Global;
 use std::process::Abort;
 use std::test::Fail;
-use worker_desk::{Event, InstallDesk, run_installer};
+use worker_desk::{Event, InstallDesk, LockDesk, run_installer};
 
 /// A flow's number, and how many events there were when it was given.
 #[derive(Clone, Copy)]
@@ -39,14 +39,8 @@ struct StepDesk<'a, R: Abort> {
     ghost few: { flows ≤ 64 },
 }
 
-impl<'a, R: Abort> InstallDesk for StepDesk<'a, R> {
+impl<'a, R: Abort> LockDesk for StepDesk<'a, R> {
     ghost use Rattle.std.specs.Prelude.{Some};
-
-    type Source = FlowNumber;
-
-    type Text = StepText;
-
-    type Entry = u32;
 
     type Guard = u32;
 
@@ -55,6 +49,39 @@ impl<'a, R: Abort> InstallDesk for StepDesk<'a, R> {
     ghost held = { λ d. d.held };
 
     ghost flows = { λ d. d.flows };
+
+    fn flow_count(&self) -> u32 {
+        self.flows
+    }
+
+    fn lock(&mut self, flow: u32) {
+        keep(self.rt, &mut self.events, Event::Locked(flow));
+        self.held = Some(flow);
+    }
+
+    fn unlock(&mut self, flow: u32) -> u32 {
+        keep(self.rt, &mut self.events, Event::Unlocked(flow));
+        self.held = None;
+        flow
+    }
+
+    fn pass(&mut self, worker: u32, point: Point, flow: u32) {
+        keep(
+            self.rt,
+            &mut self.events,
+            Event::Passed(worker, point, flow),
+        );
+    }
+}
+
+impl<'a, R: Abort> InstallDesk for StepDesk<'a, R> {
+    ghost use Rattle.std.specs.Prelude.{Some};
+
+    type Source = FlowNumber;
+
+    type Text = StepText;
+
+    type Entry = u32;
 
     ghost flow_from = { λ source. source.flow };
 
@@ -65,10 +92,6 @@ impl<'a, R: Abort> InstallDesk for StepDesk<'a, R> {
     ghost source_at = { λ text. Some text.events };
 
     ghost step_of = { λ step. step };
-
-    fn flow_count(&self) -> u32 {
-        self.flows
-    }
 
     fn source(&self, flow: u32) -> FlowNumber {
         FlowNumber {
@@ -95,17 +118,6 @@ impl<'a, R: Abort> InstallDesk for StepDesk<'a, R> {
         None
     }
 
-    fn lock(&mut self, flow: u32) {
-        keep(self.rt, &mut self.events, Event::Locked(flow));
-        self.held = Some(flow);
-    }
-
-    fn unlock(&mut self, flow: u32) -> u32 {
-        keep(self.rt, &mut self.events, Event::Unlocked(flow));
-        self.held = None;
-        flow
-    }
-
     fn install(&mut self, flow: u32, entry: u32) -> bool {
         let is_next = next(&mut self.answers);
         keep(
@@ -120,14 +132,6 @@ impl<'a, R: Abort> InstallDesk for StepDesk<'a, R> {
         let changed = next(&mut self.answers);
         keep(self.rt, &mut self.events, Event::Changed(flow, changed));
         changed
-    }
-
-    fn pass(&mut self, worker: u32, point: Point, flow: u32) {
-        keep(
-            self.rt,
-            &mut self.events,
-            Event::Passed(worker, point, flow),
-        );
     }
 }
 

@@ -7,7 +7,7 @@ use ccp_base::Point;
 use std::alloc::Global;
 use std::process::Abort;
 use std::test::Fail;
-use worker_desk::{Desk, Event, Heard, run_datapath_worker};
+use worker_desk::{Desk, Event, Heard, LockDesk, run_datapath_worker};
 
 /// A desk of flows whose answers come from a list.
 #[derive(Drop)]
@@ -21,7 +21,7 @@ struct AnswerDesk<'a, R: Abort> {
     ghost few: { flows ≤ 64 },
 }
 
-impl<'a, R: Abort> Desk for AnswerDesk<'a, R> {
+impl<'a, R: Abort> LockDesk for AnswerDesk<'a, R> {
     ghost use Rattle.std.specs.Prelude.{Some, vec_len};
 
     type Guard = u32;
@@ -49,6 +49,16 @@ impl<'a, R: Abort> Desk for AnswerDesk<'a, R> {
         flow
     }
 
+    fn pass(&mut self, worker: u32, point: Point, flow: u32) {
+        keep(
+            self.rt,
+            &mut self.events,
+            Event::Passed(worker, point, flow),
+        );
+    }
+}
+
+impl<'a, R: Abort> Desk for AnswerDesk<'a, R> {
     fn ack(&mut self, worker: u32, flow: u32) -> Heard {
         let answer = next(&mut self.answers);
         keep(
@@ -57,14 +67,6 @@ impl<'a, R: Abort> Desk for AnswerDesk<'a, R> {
             Event::Acked(worker, flow, answer),
         );
         answer
-    }
-
-    fn pass(&mut self, worker: u32, point: Point, flow: u32) {
-        keep(
-            self.rt,
-            &mut self.events,
-            Event::Passed(worker, point, flow),
-        );
     }
 
     fn nudge(&mut self, flow: u32) {

@@ -1,6 +1,6 @@
 -- That the env of a program keeps its shape.
 use Rattle.std.specs.Prelude.{◌≡◌, ℕ, suc, Bool, true, false, not, Result, Ok, Err, IfOk, List, [], ◌∷◌, length, refl}
-use Rattle.std.proofs.Common.{ap, ◌∙◌, sym, subst, length-set}
+use Rattle.std.proofs.Common.{ap, ◌∙◌, length-set}
 use Rattle.std.proofs.lemmas.List.{length-map}
 use Rattle.ccp_base.specs.declared.ack.Ack.{Ack}
 use Rattle.ccp_base.specs.declared.fields.FieldReg.{FieldReg}
@@ -132,9 +132,3 @@ IsEnvOf-settled form env room (Err cause) shape kept = shape
 pub IsEnvOf-one_of : (form : Form) (env : Env) (ack : Ack) (room : Bool) → IsEnvOf form env → IsEnvOf form (one_of form env ack room).1
 IsEnvOf-one_of form env ack room shape =
     IsEnvOf-settled form env room (blocks_of form.blocks ack (before_blocks env)) shape (IsEnvOf-blocks form form.blocks ack (before_blocks env) shape)
-
--- the same, in parts
-pub IsEnvOf-after_blocks : (form : Form) (parts : List Part) (ack : Ack) (env : Env) (going done : Going) → going ≡ before_blocks env → IsEnvOf form env → blocks_of parts ack going ≡ Ok done → IsEnvOf form done.env
-IsEnvOf-after_blocks form parts ack env going done begins shape run =
-    let kept = subst (λ (g : Going). IfOk (blocks_of parts ack g) (λ d. IsEnvOf form d.env)) (sym begins) (IsEnvOf-blocks form parts ack (before_blocks env) shape) in
-    subst (λ (r : Result Going Cause). IfOk r (λ d. IsEnvOf form d.env)) run kept

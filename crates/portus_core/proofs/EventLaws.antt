@@ -1,6 +1,5 @@
 -- That events can be taken one after another.
 use Rattle.std.specs.Prelude.{◌≡◌, List, [], ◌∷◌, ◌++◌, refl}
-use Rattle.std.proofs.Common.{◌∙◌}
 use Rattle.portus_core.specs.Epoch.{Event, Reading, Track, after_event, after}
 
 -- later events start from the state that the earlier ones left

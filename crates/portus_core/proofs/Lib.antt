@@ -2,5 +2,6 @@
 pub mod EnvShapes
 pub mod EventLaws
 pub mod ResetLemmas
+pub mod RunLemmas
 pub mod ValidIsRunnable
 pub mod WorkedCases

@@ -2,7 +2,7 @@
 use Rattle.std.proofs.Common.{◌≡◌, refl, ℕ, ◌-◌, ◌^◌, true, false, Some, Ok, Err, List, [], ◌∷◌}
 use Rattle.std.specs.Prelude.{codes}
 use Rattle.ccp_base.specs.declared.ack.Ack.{Ack}
-use Rattle.ccp_base.specs.Acknowledgement.{ack_of}
+use Rattle.ccp_base.specs.Acknowledgement.{ack_of, flag_number}
 use Rattle.ccp_base.specs.declared.arithmetic.FaultKind.TheVariants.{Overflow, ZeroDivisor}
 use Rattle.ccp_base.specs.declared.exchange.Report.{Report}
 use Rattle.ccp_base.specs.declared.fields.FieldReg.TheVariants as reg
@@ -10,10 +10,11 @@ use Rattle.ccp_base.specs.declared.place.Place.{Place}
 use Rattle.portus_core.specs.declared.env.StartFault.TheVariants.{BadRegister}
 use Rattle.portus_core.specs.declared.program.Decl.{Decl}
 use Rattle.ccp_base.specs.declared.operation.Op2.TheVariants as op
+use Rattle.ccp_base.specs.RunningEpochs.{Reporter}
 use Rattle.portus_core.specs.declared.program.Var.TheVariants as var
 use Rattle.portus_core.specs.Programs.{Term, number, truth, name, pair, Action, set, ewma, zero_micros, report, fall, Part, Form}
 use Rattle.portus_core.specs.Epoch.{epoch_start, declared_env, Event, acknowledged, updated, Track, track_at, by_source, after}
-use Rattle.portus_core.specs.Reports.{Reporter, reports, tail, epoch_fault}
+use Rattle.portus_core.specs.Reports.{reports, tail, epoch_fault}
 
 abbrev at : ℕ → Place
 at column = record { line = 1; column = column }
@@ -95,7 +96,7 @@ measurement = program (volatile_num ∷ volatile_num ∷ volatile_num ∷ volati
     ∷ set (var.Field 0) (pair op.Add (at 1) (field 0) (prim 0))
     ∷ set (var.Field 1) (pair op.Add (at 2) (field 1) (prim 3))
     ∷ set (var.Field 2) (prim 6)
-    ∷ set (var.Field 3) (prim 14)
+    ∷ set (var.Field 3) (prim flag_number)
     ∷ fall ∷ [])
     ∷ part (pair op.Or (at 3) (field 3) (field 2)) (report ∷ zero_micros ∷ [])
     ∷ part (pair op.Gt (at 4) (name var.Micros) (prim 13)) (report ∷ zero_micros ∷ [])

@@ -1,5 +1,5 @@
 -- What a command does.
-use Rattle.std.specs.Prelude.{ℕ, ◌-◌, Bool, true, false, not, ◌==◌, if◌then◌else◌, Some, Result, Ok, List, [], ◌∷◌, slice_set}
+use Rattle.std.specs.Prelude.{ℕ, Bool, true, false, not, ◌==◌, if◌then◌else◌, Some, Result, Ok, List, [], ◌∷◌, slice_set}
 use Rattle.ccp_base.specs.declared.ack.Ack.{Ack}
 use Rattle.ccp_base.specs.Blending.{moving_average}
 use Rattle.ccp_base.specs.Chaining.{then_do}

@@ -2,6 +2,8 @@
 use Rattle.std.specs.Prelude.{◌≡◌, ℕ, Bool, true, false, if◌then◌else◌, Result, Ok, Err, List, ◌∷◌, length}
 use Rattle.ccp_base.specs.declared.ack.Ack.{Ack}
 use Rattle.portus_core.specs.declared.env.Env.{Env}
+use Rattle.portus_core.specs.declared.env.Effect.{Effect}
+use Rattle.portus_core.specs.declared.env.Effect.TheVariants as effect
 use Rattle.portus_core.specs.declared.env.Mean.{Mean}
 use Rattle.portus_core.specs.declared.env.Mean.TheVariants.{Quiet, Reported, Held, Fault}
 use Rattle.portus_core.specs.declared.program.Decl.{Decl}
@@ -23,6 +25,13 @@ reset _ values = values
 
 abbrev pub reset_of : Form → Env → Env
 reset_of form env = record env { fields = reset form.fields env.fields; controls = reset form.controls env.controls }
+
+-- the outcome with this effect, and with these fields of a report
+abbrev pub mean_with : List ℕ → Effect → Mean
+mean_with fields effect.Quiet = Quiet
+mean_with fields effect.Reported = Reported fields
+mean_with fields effect.Held = Held
+mean_with fields (effect.Fault kind place) = Fault kind place
 
 -- a report that was asked for is made if there is room, else held
 abbrev pub answered : Form → Bool → Bool → Env → Mean × Env

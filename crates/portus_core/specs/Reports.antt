@@ -3,28 +3,14 @@ use Rattle.std.specs.Prelude.{ℕ, ◌+◌, Option, Some, None, List, [], ◌∷
 use Rattle.std.specs.Option.{option_or}
 use Rattle.ccp_base.specs.declared.ack.Ack.{Ack}
 use Rattle.ccp_base.specs.declared.exchange.Report.{Report}
+use Rattle.ccp_base.specs.RunningEpochs.{Reporter, report_by}
 use Rattle.portus_core.specs.declared.env.Env.{Env}
 use Rattle.portus_core.specs.Epoch.{Event, acknowledged, updated, Outcome, quiet, reported, held, failed, stopped, Reading, Track, heard, after_event, after}
 
--- what makes the reports of an epoch: its flow, its program and its number
-pub record Reporter : Type 0 where
-  pub flow : ℕ
-  pub program : ℕ
-  pub number : ℕ
-
 -- the report of a span, from where the last one ended to just after the reporting acknowledgement
 abbrev pub report_of : Reporter → Track → Ack → Env → List ℕ → Report
-report_of reporter track ack env fields = record {
-  flow = reporter.flow;
-  program = reporter.program;
-  epoch = reporter.number;
-  first = track.first;
-  end = track.count + 1;
-  now = ack.now;
-  cwnd = env.cwnd;
-  rate = env.rate;
-  fields = fields;
-}
+report_of reporter track ack env fields =
+    report_by reporter track.first (track.count + 1) ack.now env.cwnd env.rate fields
 
 abbrev pub reports_met : {F : Type 0} → Reporter → Track → Ack → Outcome F → Env → List Report
 reports_met reporter track ack (reported fields) env = report_of reporter track ack env fields ∷ []

@@ -4,7 +4,7 @@ use Rattle.std.proofs.Common.{arith, ap, ◌∙◌, sym}
 use Rattle.std.specs.declared.vec.Vec.{Vec}
 use Rattle.std.specs.declared.alloc.Global.{Global}
 use Rattle.ccp_base.specs.declared.place.Place.{Place}
-use Rattle.portus_core.specs.declared.tree.Tree.{Tree, Num, Word, List as Group}
+use Rattle.portus_core.specs.declared.tree.Tree.{Tree, List as Group}
 use Rattle.portus_core.specs.declared.tree.Tree.TheOpen.{Tree-F}
 use Rattle.portus_core.specs.declared.tree.Tree.TheOpen as layer
 use Rattle.portus_core.specs.declared.tree.Tree.TheFolds.{fold-Tree, fold-roll-Tree}

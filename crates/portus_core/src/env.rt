@@ -1,5 +1,5 @@
 //! What a program keeps between acknowledgements, the result of one, and why a program isn't started.
-ghost use Rattle.std.specs.Prelude.{◌≡◌, IfOk};
+ghost use Rattle.std.specs.Prelude.{◌≡◌, IfOk, length};
 ghost use Rattle.ccp_base.specs.Outside.{no_memory};
 
 use ccp_base::{FaultKind, NoMemory, Numbers, Place, Values};
@@ -22,7 +22,7 @@ pub struct Env {
 
 impl Env {
     /// An equal env in memory of its own.
-    pub(crate) fn copy(&self, alloc: Global) -> Result<Env, NoMemory>
+    pub fn copy(&self, alloc: Global) -> Result<Env, NoMemory>
         ensures { IfOk result (λ env. env ≡ self.now) }
     {
         Ok(Env {
@@ -32,6 +32,29 @@ impl Env {
             rate: self.rate,
             zero: self.zero,
         })
+    }
+
+    /// Makes this env equal to another of as many fields and control variables, without taking memory.
+    pub(crate) fn copy_from(&mut self, other: &Env)
+        requires fields { length self.old.fields ≡ length other.now.fields }
+        requires controls { length self.old.controls ≡ length other.now.controls }
+        ensures { self.new ≡ other.now }
+    {
+        overwrite(&mut self.fields, &other.fields);
+        overwrite(&mut self.controls, &other.controls);
+        self.cwnd = other.cwnd;
+        self.rate = other.rate;
+        self.zero = other.zero;
+    }
+}
+
+/// Writes numbers over as many.
+fn overwrite(numbers: &mut Numbers, others: &Numbers)
+    requires { length numbers.old ≡ length others.now }
+    ensures { numbers.new ≡ others.now }
+{
+    for (i, other) in others.as_slice().iter().enumerate() {
+        numbers.set(i, *other);
     }
 }
 
@@ -48,6 +71,19 @@ pub enum Mean {
     Quiet,
     /// A report was made, with these fields in order of declaration.
     Reported(Values),
+    /// A report was asked for, but there was no room for it.
+    Held,
+    /// An operation had no result. It has the place of its head atom.
+    Fault(FaultKind, Place),
+}
+
+/// The outcome of an acknowledgement, without the fields of a report.
+#[derive(Clone, Copy)]
+pub enum Effect {
+    /// No report was asked for.
+    Quiet,
+    /// A report was made.
+    Reported,
     /// A report was asked for, but there was no room for it.
     Held,
     /// An operation had no result. It has the place of its head atom.

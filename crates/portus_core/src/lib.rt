@@ -1,8 +1,8 @@
 //! Trees and programs of the datapath language, and what a program means.
 //!
-//! The evaluator by trees, `Program::start` and `Program::mean`, is the reference: it computes exactly what the
-//! definitions say of a program. `audit` alone runs it, to judge what others ran. Every other mode runs the code that a
-//! program is compiled to.
+//! The evaluator by trees, `Program::start`, `Program::mean` and `Program::run`, is the reference: it computes exactly
+//! what the definitions say of a program. `audit` alone runs it, to judge what others ran. Every other mode runs the
+//! code that a program is compiled to.
 #![tactic(auto)]
 
 mod blocks;
@@ -18,7 +18,7 @@ mod value;
 mod words;
 
 pub use ccp_base::Op2;
-pub use env::{Env, Mean, StartFault};
+pub use env::{Effect, Env, Mean, StartFault};
 pub use printing::print_tree;
 pub use program::{Block, Cmd, Decl, Expr, Program, Var};
 pub use tree::{Parts, Source, Tree, take_apart};

@@ -1,10 +1,11 @@
 //! The meaning of an acknowledgement for a program: its blocks run, and a report is made or held if asked for.
 ghost use Rattle.std.specs.Prelude.{◌≡◌, ◌<◌, ◌≤◌, IfOk, Ok, length, slice_set, if◌then◌else◌};
+ghost use Rattle.ccp_base.specs.Limits.{most_fields};
 ghost use Rattle.portus_core.specs.ProgramForm.{form_of};
-ghost use Rattle.portus_core.specs.OneAcknowledgement.{IsEnvOf, reset, answered, one_of};
+ghost use Rattle.portus_core.specs.OneAcknowledgement.{IsEnvOf, reset, mean_with, answered, one_of};
 
 use crate::blocks::blocks;
-use crate::env::{Env, Mean};
+use crate::env::{Effect, Env, Mean};
 use crate::program::{Decl, Program};
 use crate::progress::Progress;
 use ccp_base::{Ack, NoMemory, Numbers, Values};
@@ -23,29 +24,64 @@ impl Program {
         ensures exact { IfOk result (λ answer. answer ≡ one_of (form_of self.now) env.now ack.entry.now room) }
         ensures shape { IfOk result (λ answer. IsEnvOf (form_of self.now) answer.1) }
     {
-        let mut progress = Progress::begin(env.copy(alloc)?);
-        match blocks(&self.blocks, ack, &mut progress) {
-            Ok(()) => Ok(self.finish(progress.asked, room, progress.env)),
-            Err((kind, place)) => Ok((Mean::Fault(kind, place), env.copy(alloc)?)),
+        let mut after = env.copy(alloc)?;
+        let mut spare = env.copy(alloc)?;
+        let effect = self.run(&mut after, &mut spare, ack, room);
+        Ok((mean_of(effect, &spare.fields), after))
+    }
+
+    /// Runs one acknowledgement in the env itself. `room` says whether there is room for a report. `spare`, another env
+    /// of the program, is overwritten: after a report it has the report's fields, in order of declaration.
+    pub fn run(&self, env: &mut Env, spare: &mut Env, ack: &Ack, room: bool) -> Effect
+        requires env { IsEnvOf (form_of self.now) env.old }
+        requires spare { IsEnvOf (form_of self.now) spare.old }
+        ensures exact { (mean_with spare.new.fields result, env.new)
+            ≡ one_of (form_of self.now) env.old ack.entry.now room }
+        ensures env { IsEnvOf (form_of self.now) env.new }
+        ensures spare { IsEnvOf (form_of self.now) spare.new }
+    {
+        spare.copy_from(env);
+        let mut progress = Progress::begin();
+        match blocks(&self.blocks, ack, env, &mut progress) {
+            Ok(()) => self.finish(env, spare, progress.asked, room),
+            Err((kind, place)) => {
+                env.copy_from(spare);
+                Effect::Fault(kind, place)
+            }
         }
     }
 
     /// Makes or holds the report that was asked for, after the last block's work.
-    fn finish(&self, asked: bool, room: bool, mut env: Env) -> (Mean, Env)
-        requires { IsEnvOf (form_of self.now) env }
-        ensures exact { result ≡ answered (form_of self.now) asked room env }
-        ensures shape { IsEnvOf (form_of self.now) result.1 }
+    fn finish(&self, env: &mut Env, spare: &mut Env, asked: bool, room: bool) -> Effect
+        requires env { IsEnvOf (form_of self.now) env.old }
+        requires spare { IsEnvOf (form_of self.now) spare.old }
+        ensures exact { (mean_with spare.new.fields result, env.new) ≡ answered (form_of self.now) asked room env.old }
+        ensures env { IsEnvOf (form_of self.now) env.new }
+        ensures spare { IsEnvOf (form_of self.now) spare.new }
     {
         if !asked {
-            return (Mean::Quiet, env);
+            return Effect::Quiet;
         }
         if !room {
-            return (Mean::Held, env);
+            return Effect::Held;
         }
-        let fields = Values::from_slice(env.fields.as_slice());
+        spare.copy_from(env);
         reset(&self.fields, &mut env.fields);
         reset(&self.controls, &mut env.controls);
-        (Mean::Reported(fields), env)
+        Effect::Reported
+    }
+}
+
+/// The outcome with this effect; `fields` are those of a report.
+fn mean_of(effect: Effect, fields: &Numbers) -> Mean
+    requires { length fields.now ≤ most_fields }
+    ensures { result ≡ mean_with fields.now effect }
+{
+    match effect {
+        Effect::Quiet => Mean::Quiet,
+        Effect::Reported => Mean::Reported(Values::from_slice(fields.as_slice())),
+        Effect::Held => Mean::Held,
+        Effect::Fault(kind, place) => Mean::Fault(kind, place),
     }
 }
 

@@ -1,5 +1,5 @@
 //! The value of an expression or a name, or the fault of an operation with its place.
-ghost use Rattle.std.specs.Prelude.{◌≡◌, slice_index, unwrap_or};
+ghost use Rattle.std.specs.Prelude.{◌≡◌, IfSome, Ok, slice_index, unwrap_or};
 ghost use Rattle.ccp_base.specs.Acknowledgement.{prim};
 ghost use Rattle.portus_core.specs.Programs.{term_of};
 ghost use Rattle.portus_core.specs.Value.{read_of, value_of};
@@ -26,14 +26,37 @@ pub fn value(expr: &Expr, env: &Env, locals: &Locals, ack: &Ack) -> Result<u64, 
         Expr::Truth(truth) => Ok(bool_number(*truth)),
         Expr::Var(var) => Ok(read(*var, env, locals, ack)),
         Expr::Pair(op, place, left, right) => {
-            let a = value(left, env, locals, ack)?;
-            let b = value(right, env, locals, ack)?;
+            let a = match leaf(left, env, locals, ack) {
+                Some(a) => a,
+                None => value(left, env, locals, ack)?,
+            };
+            let b = match leaf(right, env, locals, ack) {
+                Some(b) => b,
+                None => value(right, env, locals, ack)?,
+            };
             op.apply(a, b).map_err(|kind| (kind, *place))
         }
     }
 }
 
+// Inlined into `value`, so that only an operation within an operation is a call.
+/// The value of an expression without an operation, None if it has one.
+#[inline(always)]
+#[tactic(auto, using(crate::specs::Programs::terms))]
+fn leaf(expr: &Expr, env: &Env, locals: &Locals, ack: &Ack) -> Option<u64>
+    ensures { IfSome result
+        (λ number. value_of (term_of expr.now) env.now (locals_of locals.now) ack.entry.now ≡ Ok number) }
+{
+    match expr {
+        Expr::Num(number) => Some(*number),
+        Expr::Truth(truth) => Some(bool_number(*truth)),
+        Expr::Var(var) => Some(read(*var, env, locals, ack)),
+        Expr::Pair(_, _, _, _) => None,
+    }
+}
+
 /// The value of a name, 0 for a name without a meaning.
+#[inline(always)]
 pub fn read(var: Var, env: &Env, locals: &Locals, ack: &Ack) -> u64
     ensures { result ≡ read_of var env.now (locals_of locals.now) ack.entry.now }
 {

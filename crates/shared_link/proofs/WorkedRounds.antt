@@ -1,6 +1,7 @@
 -- What the definition of a shared link gives for a few short lists of rounds.
-use Rattle.std.proofs.Common.{◌≡◌, List, ℕ, ◌*◌, [], ◌∷◌, false, None, refl}
+use Rattle.std.proofs.Common.{◌≡◌, List, ℕ, [], ◌∷◌, None, refl, map}
 use Rattle.ccp_base.specs.declared.ack.Ack.{Ack}
+use Rattle.ccp_base.specs.Acknowledgement.{ack_of}
 use Rattle.shared_link.specs.declared.shared_case.FlowLink.{FlowLink}
 use Rattle.shared_link.specs.declared.shared_case.SharedCase.{SharedCase}
 use Rattle.shared_link.specs.declared.round.Ask.{Ask}
@@ -65,30 +66,14 @@ one_started = record { trace = 1 ∷ []; queue = 10; quantum_us = 5000; flows = 
 abbrev five_rounds : List (List Ask)
 five_rounds = asks 4344 9 ∷ asks 4344 9 ∷ asks 4344 9 ∷ asks 4344 9 ∷ asks 4344 9 ∷ []
 
--- the acknowledgement at a time, with how many packets stay in flight, its rates and its round-trip sample
-abbrev ack_at : ℕ → ℕ → ℕ → ℕ → ℕ → Ack
-ack_at now stay incoming outgoing sample = record {
-  bytes_acked = 1448;
-  packets_acked = 1;
-  bytes_misordered = 0;
-  packets_misordered = 0;
-  ecn_bytes = 0;
-  ecn_packets = 0;
-  lost_pkts_sample = 0;
-  now = now;
-  bytes_in_flight = 1448 * stay;
-  packets_in_flight = stay;
-  bytes_pending = 0;
-  rate_incoming = incoming;
-  rate_outgoing = outgoing;
-  rtt_sample_us = sample;
-  was_timeout = false;
-}
+-- an acknowledgement by its time, how many packets stay in flight, its two rates and its round-trip sample
+abbrev seen : Ack → List ℕ
+seen ack = ack.now ∷ ack.packets_in_flight ∷ ack.rate_incoming ∷ ack.rate_outgoing ∷ ack.rtt_sample_us ∷ []
 
-rates_since_the_start : acks_after one_started five_rounds (asks 4344 9)
-    ≡ (ack_at 26000 2 241333 724000 6000 ∷ ack_at 27000 1 413714 620571 7000 ∷ ack_at 28000 0 543000 543000 8000 ∷ []) ∷ []
+rates_since_the_start : map (map seen) (acks_after one_started five_rounds (asks 4344 9))
+    ≡ ((26000 ∷ 2 ∷ 241333 ∷ 724000 ∷ 6000 ∷ []) ∷ (27000 ∷ 1 ∷ 413714 ∷ 620571 ∷ 7000 ∷ []) ∷ (28000 ∷ 0 ∷ 543000 ∷ 543000 ∷ 8000 ∷ []) ∷ []) ∷ []
 rates_since_the_start = refl
 
 -- at the start they are 0
-no_rates_at_the_start : (since_start 1448 20000 1 3 (ack_at 20000 2 72400 217200 6000)).rate_outgoing ≡ 0
+no_rates_at_the_start : (since_start 1448 20000 1 3 (record (ack_of []) { now = 20000; rate_outgoing = 217200 })).rate_outgoing ≡ 0
 no_rates_at_the_start = refl

@@ -11,7 +11,7 @@ use crate::packed_ack::{PackedAck, PackedAcks};
 use crate::shared_case::FlowLink;
 use ccp_base::NoMemory;
 use circular_buffer::HeapCircularBuffer;
-use link_model::{Arrival, Past};
+use link_model::Arrival;
 use std::alloc::{AllocError, Global};
 
 impl FlowTraffic {
@@ -145,10 +145,9 @@ impl FlowTraffic {
         self.acked += 1;
         self.gone += arrival.lost;
         self.time = arrival.at;
-        self.past = Past {
-            rtt_sample_us: arrival.at - arrival.sent_at,
-        };
-        let ack = PackedAck::of_arrival(link, arrival, self.in_flight, self.acked, self.sent);
+        let past = self.past;
+        let ack = PackedAck::of_arrival(link, arrival, past, self.in_flight, self.acked, self.sent);
+        self.past = ack.past_after();
         self.acks.push_reserved(ack);
     }
 
@@ -178,8 +177,8 @@ impl FlowTraffic {
         self.since = 0;
         self.in_flight = 0;
         self.gone += lost;
-        // a timeout has no sample of its own, so what is past stays
         let ack = PackedAck::of_timeout(link, now, self.past, lost, self.acked, self.sent);
+        self.past = ack.past_after();
         self.acks.push_reserved(ack);
     }
 }

@@ -1,8 +1,8 @@
 //! Acknowledgements in packed form.
-ghost use Rattle.std.specs.Prelude.{◌≡◌, ◌-◌, ◌≤◌};
+ghost use Rattle.std.specs.Prelude.{◌≡◌, ◌≤◌};
 ghost use Rattle.ccp_base.specs.Limits.{most_segment_bytes, most_flight};
 ghost use Rattle.link_model.specs.Counts.{most_packets};
-ghost use Rattle.link_model.specs.Link.{no_past, arrival_ack_of, timeout_ack_of};
+ghost use Rattle.link_model.specs.Link.{past_in, arrival_ack_of, timeout_ack_of};
 ghost use Rattle.link_model.specs.Rated.{rated};
 ghost use Rattle.shared_link.specs.SharedRounds.{since_start};
 
@@ -11,16 +11,19 @@ use ccp_base::{Ack, Sequence};
 use link_model::{Arrival, Past, arrival_ack, timeout_ack};
 use std::marker::Model;
 
-/// An acknowledgement in 40 bytes, by what the link knows of it. The whole acknowledgement, with its rates if they are
+/// An acknowledgement in 48 bytes, by what the link knows of it. The whole acknowledgement, with its rates if they are
 /// asked for, is computed by the thread that gives it to its flow, and not by the one that runs the link for all flows.
 /// Contracts see the whole one.
 #[derive(Drop)]
 pub struct PackedAck {
     /// When it arrives, in microseconds.
     now: u64,
-    rtt_sample_us: u64,
-    /// How long after its flow's start it arrives, in microseconds: 0 before it.
-    since: u64,
+    /// When its packet was sent, in microseconds; 0 if it is a timeout's.
+    sent_at: u64,
+    /// When its flow starts, in microseconds.
+    start_us: u64,
+    /// What it takes from the acknowledgements before it.
+    past: Past,
     /// How many packets of the flow were acknowledged so far.
     acked: u32,
     /// How many were sent so far.
@@ -50,12 +53,13 @@ impl Model for PackedAck {
 }
 
 impl PackedAck {
-    /// The acknowledgement of `arrival`, a packet of a flow, if `stay` packets stay in flight and `acked` packets were
-    /// acknowledged, this one counted, of `sent` that were sent.
+    /// The acknowledgement of `arrival`, a packet of a flow, after `past`, if `stay` packets stay in flight and `acked`
+    /// packets were acknowledged, this one counted, of `sent` that were sent.
     #[inline]
     pub(crate) fn of_arrival(
         link: &FlowLink,
         arrival: Arrival,
+        past: Past,
         stay: u64,
         acked: u64,
         sent: u64,
@@ -67,13 +71,14 @@ impl PackedAck {
         requires acked { acked ≤ most_packets }
         requires sent { sent ≤ most_packets }
         ensures { result ≡ since_start link.now.mss link.now.start_us acked sent
-            (arrival_ack_of link.now.mss arrival.sent_at arrival.at arrival.marked no_past arrival.lost
+            (arrival_ack_of link.now.mss arrival.sent_at arrival.at arrival.marked past arrival.lost
             stay acked sent) }
     {
         PackedAck {
             now: arrival.at,
-            rtt_sample_us: arrival.at - arrival.sent_at,
-            since: arrival.at.saturating_sub(link.start_us),
+            sent_at: arrival.sent_at,
+            start_us: link.start_us,
+            past,
             acked: acked as u32,
             sent: sent as u32,
             mss: link.mss as u16,
@@ -103,8 +108,9 @@ impl PackedAck {
     {
         PackedAck {
             now,
-            rtt_sample_us: past.rtt_sample_us,
-            since: now.saturating_sub(link.start_us),
+            sent_at: 0,
+            start_us: link.start_us,
+            past,
             acked: acked as u32,
             sent: sent as u32,
             mss: link.mss as u16,
@@ -113,6 +119,16 @@ impl PackedAck {
             marked: false,
             was_timeout: true,
         }
+    }
+
+    /// What the acknowledgements after this one take from it.
+    #[inline]
+    pub(crate) fn past_after(&self) -> Past
+        ensures { result ≡ past_in self.entry.now }
+    {
+        let mut ack = Ack::default();
+        self.unpack(false, &mut ack);
+        Past::after(&ack)
     }
 
     /// The whole acknowledgement.
@@ -131,68 +147,64 @@ impl PackedAck {
     pub fn unpack(&self, rates: bool, ack: &mut Ack)
         ensures { ack.new ≡ rated rates self.entry.now }
     {
+        let (now, start_us, past) = (self.now, self.start_us, self.past);
+        let mss = u32::from(self.mss);
+        let lost = u64::from(self.lost);
         let acked = u64::from(self.acked);
         let sent = u64::from(self.sent);
         if self.was_timeout {
-            let sample = self.rtt_sample_us;
-            let lost = u64::from(self.lost);
-            put_timeout(
-                rates, ack, self.mss, self.now, self.since, sample, lost, acked, sent,
-            );
+            put_timeout(rates, ack, mss, start_us, now, past, lost, acked, sent);
             return;
         }
-        // its rates are those of an acknowledgement at this time of a flow that starts at time 0
+        let stay = u64::from(self.stay);
         let arrival = Arrival {
-            lost: u64::from(self.lost),
-            sent_at: self.since,
-            at: self.since,
+            lost,
+            sent_at: self.sent_at,
+            at: now,
             marked: self.marked,
         };
-        let over_flow_time = arrival_ack(
-            u32::from(self.mss),
-            arrival,
-            Past::none(),
-            u64::from(self.stay),
-            acked,
-            sent,
-            rates,
-        );
+        // its rates are those of an acknowledgement at this time of a flow that starts at time 0
+        let since = now.saturating_sub(start_us);
+        let since_start = Arrival {
+            sent_at: since,
+            at: since,
+            ..arrival
+        };
+        let rated = arrival_ack(mss, since_start, past, stay, acked, sent, rates);
         *ack = Ack {
-            now: self.now,
-            rtt_sample_us: self.rtt_sample_us,
-            ..over_flow_time
+            rate_incoming: rated.rate_incoming,
+            rate_outgoing: rated.rate_outgoing,
+            ..arrival_ack(mss, arrival, past, stay, acked, sent, false)
         };
     }
 }
 
-/// Writes the acknowledgement of a flow's timeout at `now`, which is `since` microseconds after the flow's start and has
-/// this round-trip sample, with its rates only if `rates` is true. A timeout is rare: it has no place in the function
-/// that unpacks each acknowledgement.
+/// Writes the acknowledgement at `now` of a timeout of a flow that starts at `start_us`, both in microseconds, with its
+/// rates only if `rates` is true. A timeout is rare: it has no place in the function that unpacks each acknowledgement.
 #[inline(never)]
 fn put_timeout(
     rates: bool,
     ack: &mut Ack,
-    mss: u16,
+    mss: u32,
+    start_us: u64,
     now: u64,
-    since: u64,
-    sample: u64,
+    past: Past,
     lost: u64,
     acked: u64,
     sent: u64,
 )
-    requires since { since ≤ now }
+    requires mss { mss ≤ most_segment_bytes }
     requires acked { acked ≤ most_packets }
     requires sent { sent ≤ most_packets }
-    ensures { ack.new ≡ rated rates (since_start mss (now - since) acked sent
-        (timeout_ack_of mss now (record { rtt_sample_us = sample }) lost 0 acked sent)) }
+    ensures { ack.new ≡ rated rates (since_start mss start_us acked sent
+        (timeout_ack_of mss now past lost 0 acked sent)) }
 {
-    let past = Past {
-        rtt_sample_us: sample,
-    };
     // its rates are those of a timeout at this time of a flow that starts at time 0
-    let over_flow_time = timeout_ack(u32::from(mss), since, past, lost, acked, sent, rates);
+    let since = now.saturating_sub(start_us);
+    let rated = timeout_ack(mss, since, past, lost, acked, sent, rates);
     *ack = Ack {
-        now,
-        ..over_flow_time
+        rate_incoming: rated.rate_incoming,
+        rate_outgoing: rated.rate_outgoing,
+        ..timeout_ack(mss, now, past, lost, acked, sent, false)
     };
 }

@@ -1,5 +1,5 @@
 //! A link that several flows share: a round takes what the flows ask for and gives their acknowledgements.
-ghost use Rattle.std.specs.Prelude.{◌≡◌, ℕ, ◌+◌, ◌<◌, List, [], ◌∷◌, ◌++◌, length, IfOk, OnOk, OnErr};
+ghost use Rattle.std.specs.Prelude.{◌≡◌, ℕ, ◌+◌, ◌<◌, ◌≤◌, List, [], ◌∷◌, ◌++◌, length, vec_capacity, IfOk, OnOk, OnErr};
 ghost use Rattle.ccp_base.specs.Limits.{most_rounds};
 ghost use Rattle.shared_link.specs.declared.round.Ask.{Ask};
 ghost use Rattle.shared_link.specs.SharedLimits.{IsWithin};
@@ -13,7 +13,7 @@ use crate::sending::Sending;
 use crate::shared_case::SharedCase;
 use ccp_base::{NoMemory, Sequence};
 use link_model::Chance;
-use std::alloc::Global;
+use std::alloc::{AllocError, Global};
 use std::marker::Model;
 
 /// Acknowledgements of flows, in the order of the flows.
@@ -81,7 +81,30 @@ impl SharedLink {
         ensures rounds { OnOk result (self.new.rounds ≡ self.old.rounds + 1) }
         ensures unchanged { OnErr result (self.new ≡ self.old) }
     {
-        let mut answers = Vec::with_capacity(alloc, asks.len())?;
+        let mut answers = Vec::new(alloc);
+        self.round_into(alloc, asks, &mut answers)?;
+        Ok(Sequence::from_vec(answers))
+    }
+
+    /// Runs one more round as `round` does, and puts each flow's acknowledgements, in order, into a list that the caller
+    /// keeps from round to round. What the list had is dropped, also if memory runs out, and its memory is used again.
+    pub fn round_into(
+        &mut self,
+        alloc: Global,
+        asks: &[Ask],
+        answers: &mut Vec<PackedAcks>,
+    ) -> Result<(), NoMemory>
+        requires asks { length asks.now ≡ length self.old.case.flows }
+        requires rounds { self.old.rounds < most_rounds }
+        ensures acks { OnOk result ((rounds : List (List Ask)) → Stands self.old rounds
+            → answers.new.items ≡ acks_after self.old.case rounds asks.now) }
+        ensures stands { OnOk result ((rounds : List (List Ask)) → Stands self.old rounds
+            → Stands self.new (rounds ++ asks.now ∷ [])) }
+        ensures case { self.new.case ≡ self.old.case }
+        ensures rounds { OnOk result (self.new.rounds ≡ self.old.rounds + 1) }
+        ensures unchanged { OnErr result (self.new ≡ self.old) }
+    {
+        clear_for(alloc, answers, asks.len())?;
         let now = u64::from(self.rounds) * self.case.quantum_us;
         self.flows
             .make_rooms(alloc, &self.case, asks, self.rounds, now)?;
@@ -89,11 +112,11 @@ impl SharedLink {
         self.flows.send_all(&self.case, asks, &mut sending);
         let end = now + self.case.quantum_us;
         self.flows
-            .answer_all(alloc, &self.case, asks, self.rounds, end, &mut answers);
+            .answer_all(alloc, &self.case, asks, self.rounds, end, answers);
         self.next = sending.next;
         self.near = sending.queue.near;
         self.rounds += 1;
-        Ok(Sequence::from_vec(answers))
+        Ok(())
     }
 
     /// Takes back a list that `round` gave a flow, whose memory serves the flow's next list. The link is as before.
@@ -112,4 +135,16 @@ impl SharedLink {
     {
         self.flows.counts(&self.case, self.rounds)
     }
+}
+
+/// Empties a list of answers, and reserves memory for `most` of them if it has too little.
+fn clear_for(alloc: Global, answers: &mut Vec<PackedAcks>, most: usize) -> Result<(), AllocError>
+    ensures none { OnOk result (answers.new.items ≡ []) }
+    ensures places { OnOk result (most ≤ vec_capacity answers.new) }
+{
+    answers.clear();
+    if answers.capacity() < most {
+        *answers = Vec::with_capacity(alloc, most)?;
+    }
+    Ok(())
 }

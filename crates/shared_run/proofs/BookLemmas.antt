@@ -8,9 +8,10 @@ use Rattle.flow_core.specs.Words.{is_still}
 use Rattle.flow_core.specs.Cores.{CoreState}
 use Rattle.campaign_core.specs.declared.tally.Tally.{Tally}
 use Rattle.campaign_core.specs.declared.row.Row.{Row}
-use Rattle.shared_run.specs.RoundLetters.{world_of_core, closed_flow}
-use Rattle.shared_run.specs.FlowRow.{flow_row}
-use Rattle.shared_run.specs.RoundFlows.{HasAllAcks, HaveAllAcks, kept_at, IsAfterHistory}
+use Rattle.campaign_core.specs.FlowRow.{world_of_core, flow_row}
+use Rattle.shared_run.specs.RoundLetters.{closed_flow}
+use Rattle.campaign_core.specs.GivenFlows.{HasAllAcks, IsAfterHistory}
+use Rattle.shared_run.specs.RoundFlows.{HaveAllAcks, kept_at}
 use Rattle.shared_run.specs.SharedBooks.{IsGivenOf, AreGivensOf}
 use Rattle.shared_run.proofs.CourseLemmas.{no-cons, same-first, same-rest}
 use Rattle.shared_run.proofs.TurnLemmas.{closed-still}

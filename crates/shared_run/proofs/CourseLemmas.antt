@@ -12,7 +12,8 @@ use Rattle.flow_core.specs.Cores.{CoreState}
 use Rattle.shared_link.specs.declared.round.Ask.{Ask}
 use Rattle.shared_link.specs.declared.shared_case.SharedCase.{SharedCase}
 use Rattle.shared_link.specs.SharedStanding.{SharedState, Stands}
-use Rattle.shared_run.specs.RoundLetters.{opened, round_part}
+use Rattle.campaign_core.specs.FlowRow.{opened}
+use Rattle.shared_run.specs.RoundLetters.{round_part}
 use Rattle.shared_run.specs.SharedHistory.{ask_of, asks_of, parts, have_all, rounds_from, round_limit}
 use Rattle.shared_run.specs.Courses.{run_after, flows_after, asks_in, acks_in_round, none_left, StandsAfter, EndsInTime}
 use Rattle.shared_run.proofs.AnswerLemmas.{no-some, same-some}

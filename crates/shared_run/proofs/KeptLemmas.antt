@@ -9,11 +9,12 @@ use Rattle.flow_core.specs.Cores.{CoreState}
 use Rattle.campaign_core.specs.declared.tally.Tally.{Tally}
 use Rattle.shared_link.specs.declared.round.Ask.{Ask}
 use Rattle.shared_link.specs.declared.shared_case.SharedCase.{SharedCase}
-use Rattle.shared_run.specs.RoundLetters.{opened, round_part, closed_flow}
+use Rattle.campaign_core.specs.FlowRow.{opened}
+use Rattle.shared_run.specs.RoundLetters.{round_part, closed_flow}
 use Rattle.shared_run.specs.SharedHistory.{ask_of}
-use Rattle.shared_run.specs.FlowRow.{AreRoomy}
+use Rattle.shared_run.specs.RoundFlows.{AreRoomy, kept_at, run_flow_in, HasHistory, MayHear}
 use Rattle.shared_run.specs.Courses.{flows_after, asks_in, acks_in_round}
-use Rattle.shared_run.specs.RoundFlows.{kept_at, run_flow_in, IsAfterHistory, HasHistory, MayHear, Goes}
+use Rattle.campaign_core.specs.GivenFlows.{IsAfterHistory, Goes}
 use Rattle.shared_run.proofs.BookLemmas.{after-kept, kept-after}
 use Rattle.shared_run.proofs.AnswerLemmas.{no-some, same-some}
 use Rattle.shared_run.proofs.CourseLemmas.{flow_fits, flow_next, flow_asks, opened_at}

@@ -1,5 +1,4 @@
 -- The lemmas of shared_run, a file a topic.
-pub mod PeakLemmas
 pub mod TurnLemmas
 pub mod RoundFlowLemmas
 pub mod LikeFlows

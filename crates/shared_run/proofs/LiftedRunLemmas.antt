@@ -9,8 +9,8 @@ use Rattle.flow_core.specs.Cores.{CoreState}
 use Rattle.shared_link.specs.declared.round.Ask.{Ask}
 use Rattle.shared_link.specs.declared.shared_case.SharedCase.{SharedCase}
 use Rattle.shared_link.specs.SharedRounds.{acks_after}
-use Rattle.shared_run.specs.RoundLetters.{CaseReading, opened, round_part, closed_flow}
-use Rattle.shared_run.specs.FlowRow.{flow_row}
+use Rattle.campaign_core.specs.FlowRow.{CaseReading, opened, flow_row}
+use Rattle.shared_run.specs.RoundLetters.{round_part, closed_flow}
 use Rattle.shared_run.specs.LiftedFlow.{ReadAlike}
 use Rattle.shared_run.proofs.TurnLemmas.{part-case, settled-case}
 use Rattle.shared_run.proofs.LiftedFlowLemmas.{lifted as flow-lifted}

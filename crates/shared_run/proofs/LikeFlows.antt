@@ -13,8 +13,8 @@ use Rattle.flow_core.specs.Cores.{CoreState, with_ack}
 use Rattle.campaign_core.specs.CampaignWord.{is_answer_due, first_letter}
 use Rattle.campaign_core.specs.CampaignRow.{window_of, peak_from, row_over}
 use Rattle.flow_core.specs.LettersLeft.{letters_left}
-use Rattle.shared_run.specs.RoundLetters.{CaseReading, settling_letter, with_next, settled_in, after_settling, with_settled_ack, round_part}
-use Rattle.shared_run.specs.FlowRow.{peak_of}
+use Rattle.campaign_core.specs.FlowRow.{CaseReading, flow_peak}
+use Rattle.shared_run.specs.RoundLetters.{settling_letter, with_next, settled_in, after_settling, with_settled_ack, round_part}
 use Rattle.shared_run.specs.LiftedFlow.{ReadAlike}
 use Rattle.shared_run.proofs.TurnLemmas.{settled-case}
 
@@ -85,6 +85,6 @@ module _ {X Y : Type 0} (read : CaseReading X) (other : CaseReading Y) (case : C
     part = λ more. part-alike more (at acks word) refl;
     closed = settled-alike true acks word;
     row =
-        like.row acks word (peak_of read (at acks word))
+        like.row acks word (flow_peak read (at acks word))
         ∙ ap (λ (peak : ℕ). row_over (other case) (world_over (other case) acks word) peak) (peak-alike acks word []);
   }

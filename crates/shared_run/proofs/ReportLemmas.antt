@@ -16,7 +16,8 @@ use Rattle.campaign_core.proofs.PlanLemmas.{MadeBy}
 use Rattle.campaign_core.proofs.ReportsMadeLemmas.{KeepsMade, ack-made, letter-made, none-left, count-length}
 use Rattle.shared_link.specs.declared.shared_case.SharedCase.{SharedCase}
 use Rattle.shared_link.specs.SharedRounds.{acks_after}
-use Rattle.shared_run.specs.RoundLetters.{CaseReading, world_of_core, opened, with_letter, answers_next, settling_letter, with_next, settled_in, with_settled_ack, round_part, closed_flow}
+use Rattle.campaign_core.specs.FlowRow.{CaseReading, world_of_core, opened, with_letter}
+use Rattle.shared_run.specs.RoundLetters.{answers_next, settling_letter, with_next, settled_in, with_settled_ack, round_part, closed_flow}
 use Rattle.shared_run.specs.SharedHistory.{Progress, asks_of, parts, after_round, have_all, rounds_from, round_limit}
 use Rattle.shared_run.specs.SharedReports.{CountsReports, RowsCountReports}
 use Rattle.shared_run.proofs.AnswerLemmas.{no-some, same-some}

@@ -9,11 +9,12 @@ use Rattle.campaign_core.specs.CampaignRow.{lost_in, acked_in}
 use Rattle.shared_link.specs.declared.shared_case.SharedCase.{SharedCase}
 use Rattle.shared_link.specs.SharedLimits.{IsWithin}
 use Rattle.shared_link.specs.SharedRounds.{acks_after}
-use Rattle.shared_run.specs.RoundLetters.{opened, closed_flow}
-use Rattle.shared_run.specs.FlowRow.{AreRoomy}
+use Rattle.campaign_core.specs.FlowRow.{opened}
+use Rattle.shared_run.specs.RoundLetters.{closed_flow}
+use Rattle.shared_run.specs.RoundFlows.{AreRoomy, HaveAllAcks}
 use Rattle.shared_run.specs.SharedHistory.{Progress, asks_of, parts, after_round}
 use Rattle.shared_run.specs.Courses.{run_after, flows_after}
-use Rattle.shared_run.specs.RoundFlows.{HasAllAcks, HaveAllAcks}
+use Rattle.campaign_core.specs.GivenFlows.{HasAllAcks}
 use Rattle.shared_run.proofs.TurnLemmas.{part-case, part-acks, part-all, settled-acks, settled-case, settled-all}
 use Rattle.shared_run.proofs.AnswerLemmas.{AreSmall, AreAllSmall, after-all-small, no-some, same-some}
 use Rattle.shared_run.proofs.CountLemmas.{KeepCounts, Within, within-after}

@@ -12,7 +12,8 @@ use Rattle.campaign_core.specs.CampaignWord.{first_letter}
 use Rattle.campaign_core.proofs.PlanLemmas.{MadeBy, IsMade, made, due-out, still}
 use Rattle.flow_core.specs.LettersLeft.{letters_left}
 use Rattle.flow_core.proofs.LeftLemmas.{left-letter}
-use Rattle.shared_run.specs.RoundLetters.{CaseReading, world_of_core, with_letter, answers_next, settling_letter, with_next, settled_in, after_settling, with_settled_ack, round_part}
+use Rattle.campaign_core.specs.FlowRow.{CaseReading, world_of_core, with_letter}
+use Rattle.shared_run.specs.RoundLetters.{answers_next, settling_letter, with_next, settled_in, after_settling, with_settled_ack, round_part}
 
 -- ---- which letter is next
 

@@ -8,7 +8,7 @@ use Rattle.shared_link.specs.declared.round.Ask.{Ask}
 use Rattle.shared_link.specs.declared.shared_case.SharedCase.{SharedCase}
 use Rattle.shared_link.specs.SharedRounds.{acks_after}
 use Rattle.shared_link.specs.SharedStanding.{SharedState, Stands}
-use Rattle.shared_run.specs.RoundLetters.{CaseReading, opened}
+use Rattle.campaign_core.specs.FlowRow.{CaseReading, opened}
 use Rattle.shared_run.specs.SharedHistory.{Progress, progress, asks_of, after_round, have_all}
 use Rattle.shared_run.specs.SharedHistory.{rounds_from, round_limit, whole_run}
 

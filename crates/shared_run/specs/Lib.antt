@@ -1,8 +1,7 @@
 -- The definitions of shared_run, a file each.
 
--- those that contracts of public calls cite: the letters and the row of a flow, and the run with its end and its result
+-- those that contracts of public calls cite: the letters of a flow, and the run with its end and its result
 pub mod RoundLetters
-pub mod FlowRow
 pub mod SharedHistory
 pub mod Courses
 pub mod SharedBooks

@@ -9,8 +9,8 @@ use Rattle.flow_core.specs.declared.letter.Letter.{Letter}
 use Rattle.flow_core.specs.Readings.{over_codes, over_sources}
 use Rattle.flow_core.specs.Cores.{CoreState}
 use Rattle.campaign_core.specs.CampaignRow.{window_of}
-use Rattle.shared_run.specs.RoundLetters.{CaseReading, world_of_core, round_part, closed_flow}
-use Rattle.shared_run.specs.FlowRow.{flow_row}
+use Rattle.campaign_core.specs.FlowRow.{CaseReading, world_of_core, flow_row}
+use Rattle.shared_run.specs.RoundLetters.{round_part, closed_flow}
 
 -- two readings of a case are alike: whatever acknowledgements its flow has, it has one window, does one part of a
 -- round, closes with one word and has one row in both

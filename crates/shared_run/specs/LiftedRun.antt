@@ -6,7 +6,7 @@ use Rattle.reg_compiler.specs.Simulation.{Simulates}
 use Rattle.flow_core.specs.declared.case.Case.{Case}
 use Rattle.flow_core.specs.Readings.{over_codes, over_sources}
 use Rattle.shared_link.specs.declared.shared_case.SharedCase.{SharedCase}
-use Rattle.shared_run.specs.RoundLetters.{CaseReading}
+use Rattle.campaign_core.specs.FlowRow.{CaseReading}
 use Rattle.shared_run.specs.SharedHistory.{whole_run, flows_at_end, shared_rows}
 
 -- a case's codes simulate the two programs that a reading has for it

@@ -1,31 +1,13 @@
 -- The letters of a flow's part of a round: its acknowledgements, each with what is taken and answered after it.
-use Rattle.std.specs.Prelude.{◌≡◌, ℕ, zero, suc, Bool, true, false, Option, Some, None, List, [], ◌∷◌, ◌++◌}
+use Rattle.std.specs.Prelude.{◌≡◌, ℕ, zero, suc, Bool, true, false, Option, Some, None, List, [], ◌∷◌}
 use Rattle.ccp_base.specs.declared.ack.Ack.{Ack}
-use Rattle.flow_core.specs.declared.case.Case.{Case}
 use Rattle.flow_core.specs.declared.letter.Letter.{Letter}
 use Rattle.flow_core.specs.declared.letter.Letter.TheVariants.{T, C}
-use Rattle.flow_core.specs.Readings.{Flow}
-use Rattle.flow_core.specs.World.{World}
-use Rattle.flow_core.specs.Words.{world_over, is_legal}
+use Rattle.flow_core.specs.Words.{is_legal}
 use Rattle.flow_core.specs.Cores.{CoreState, with_ack}
 use Rattle.campaign_core.specs.CampaignWord.{is_answer_due, first_letter}
+use Rattle.campaign_core.specs.FlowRow.{CaseReading, world_of_core, with_letter}
 use Rattle.flow_core.specs.LettersLeft.{letters_left}
-
--- a reading of cases: over their codes, or over the sources of programs
-abbrev pub CaseReading : Type 0 → Type 0
-CaseReading X = Case → Flow X
-
--- the state of a flow after its word, over its own acknowledgements
-abbrev pub world_of_core : {X : Type 0} → CaseReading X → CoreState → World X
-world_of_core read core = world_over (read core.case) core.acks core.word
-
--- a flow without a letter
-abbrev pub opened : Case → CoreState
-opened case = record { case = case; acks = []; word = [] }
-
--- the flow with one more letter that takes no acknowledgement
-abbrev pub with_letter : Letter → CoreState → CoreState
-with_letter letter core = record { case = core.case; acks = core.acks; word = core.word ++ letter ∷ [] }
 
 -- ---- taking and answering
 

@@ -5,7 +5,7 @@ use Rattle.flow_core.specs.Readings.{over_codes}
 use Rattle.flow_core.specs.Words.{legal_over, is_still}
 use Rattle.flow_core.specs.Books.{IsBookOf}
 use Rattle.flow_core.specs.Cores.{CoreState}
-use Rattle.shared_run.specs.RoundLetters.{world_of_core}
+use Rattle.campaign_core.specs.FlowRow.{world_of_core}
 
 -- the book of a flow: its case, its acknowledgements, and its word, which is legal and leaves nothing to take or to
 -- answer; and what is read off them

@@ -6,8 +6,8 @@ use Rattle.flow_core.specs.declared.case.Case.{Case}
 use Rattle.flow_core.specs.Cores.{CoreState}
 use Rattle.campaign_core.specs.declared.row.Row.{Row}
 use Rattle.campaign_core.specs.CampaignRow.{window_of}
-use Rattle.shared_run.specs.RoundLetters.{CaseReading, world_of_core, opened, round_part, closed_flow}
-use Rattle.shared_run.specs.FlowRow.{flow_row}
+use Rattle.campaign_core.specs.FlowRow.{CaseReading, world_of_core, opened, flow_row}
+use Rattle.shared_run.specs.RoundLetters.{round_part, closed_flow}
 use Rattle.shared_link.specs.declared.round.Ask.{Ask}
 use Rattle.shared_link.specs.declared.round.Counts.{Counts}
 use Rattle.shared_link.specs.declared.shared_case.SharedCase.{SharedCase}

@@ -5,8 +5,7 @@ use Rattle.flow_core.specs.declared.case.Case.{Case}
 use Rattle.flow_core.specs.Cores.{CoreState}
 use Rattle.campaign_core.specs.ReportsMade.{reports_made, reports_answered}
 use Rattle.shared_link.specs.declared.shared_case.SharedCase.{SharedCase}
-use Rattle.shared_run.specs.RoundLetters.{CaseReading, world_of_core}
-use Rattle.shared_run.specs.FlowRow.{flow_row}
+use Rattle.campaign_core.specs.FlowRow.{CaseReading, world_of_core, flow_row}
 use Rattle.shared_run.specs.SharedHistory.{flows_at_end}
 
 -- the answered tickets of a flow have all reports that it made, and its row has their number

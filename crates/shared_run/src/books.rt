@@ -4,14 +4,12 @@ ghost use Rattle.std.specs.List.{All};
 ghost use Rattle.flow_core.specs.Readings.{over_codes};
 ghost use Rattle.flow_core.specs.Words.{is_still};
 ghost use Rattle.flow_core.specs.Cores.{CoreState};
-ghost use Rattle.shared_run.specs.FlowRow.{flow_row};
-ghost use Rattle.shared_run.specs.RoundLetters.{world_of_core};
+ghost use Rattle.campaign_core.specs.FlowRow.{flow_row, world_of_core};
 ghost use Rattle.shared_run.specs.SharedBooks.{AreGivensOf};
 ghost use Rattle.shared_run.specs.RoundFlows.{kept_at, HaveAllAcks};
 
-use crate::flow::SharedFlow;
-use crate::round_flow::RoundFlow;
-use campaign_core::Rows;
+use crate::flow::finish;
+use campaign_core::{GivenFlow, Rows, TalliedFlow};
 use ccp_base::{NoMemory, Sequence};
 use flow_core::{Core, Given};
 use shared_link::Counts;
@@ -37,9 +35,9 @@ pub struct SharedRows {
 }
 
 /// The rows of flows, in order.
-pub(crate) fn rows_of<F: RoundFlow>(
+pub(crate) fn rows_of<F: GivenFlow>(
     alloc: Global,
-    flows: &[SharedFlow<F>],
+    flows: &[TalliedFlow<F>],
 ) -> Result<Rows, NoMemory>
     ensures { IfOk result (λ rows. (cores : List CoreState) → HaveAllAcks cores
         → map (λ shared. (shared.flow, shared.tally)) flows.now ≡ map (kept_at F.at) cores
@@ -56,14 +54,14 @@ pub(crate) fn rows_of<F: RoundFlow>(
 
 /// The books of flows with their acknowledgements, in order. No ticket of them may be out, and nothing may be left to
 /// take.
-pub(crate) fn givens_of(alloc: Global, flows: Vec<SharedFlow<Core>>) -> Result<Givens, NoMemory>
+pub(crate) fn givens_of(alloc: Global, flows: Vec<TalliedFlow<Core>>) -> Result<Givens, NoMemory>
     requires { All (λ (core : CoreState). is_still (world_of_core over_codes core) ≡ true)
         (map (λ shared. shared.flow) flows.items) }
     ensures { IfOk result (AreGivensOf (map (λ shared. shared.flow) flows.items)) }
 {
     let mut givens = Givens::new(alloc);
     for flow in flows {
-        givens.push(flow.finish())?;
+        givens.push(finish(flow))?;
     }
     Ok(givens)
 }

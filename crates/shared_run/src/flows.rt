@@ -8,12 +8,11 @@ ghost use Rattle.shared_run.specs.RoundFlows.{kept_at};
 ghost use Rattle.shared_run.specs.KnownFlows.{AreKnown};
 
 use crate::course::Course;
-use crate::flow::SharedFlow;
+use crate::flow::close;
 use crate::known_flow::{KnownFlow, KnownFlows};
 use crate::round_acks::RoundAcks;
-use crate::round_flow::RoundFlow;
 use crate::run_flow::{LockedRunFlow, RunFlow};
-use campaign_core::Cases;
+use campaign_core::{Cases, GivenFlow, TalliedFlow};
 use ccp_base::NoMemory;
 use crossbeam_utils::CachePadded;
 use shared_link::Ask;
@@ -21,7 +20,7 @@ use std::alloc::Global;
 use std::sync::{Mutex, Wait};
 
 /// The flows of a run's cases before the first round, in order.
-pub(crate) fn open_flows<C: Course, F: RoundFlow>(
+pub(crate) fn open_flows<C: Course, F: GivenFlow>(
     alloc: Global,
     cases: Cases,
 ) -> Result<Vec<LockedRunFlow<C, F>>, NoMemory>
@@ -32,7 +31,7 @@ pub(crate) fn open_flows<C: Course, F: RoundFlow>(
     let mut flows = Vec::new(alloc);
     let mut number = 0;
     for case in cases.into_vec() {
-        let flow = SharedFlow::<F>::open(alloc, case)?;
+        let flow = TalliedFlow::<F>::open(alloc, case)?;
         let flow = Mutex::new(RunFlow::<C, F>::begin(flow, number));
         flows.push(CachePadded::new(flow))?;
         number += 1;
@@ -41,7 +40,7 @@ pub(crate) fn open_flows<C: Course, F: RoundFlow>(
 }
 
 /// What is known of the flows before the first round, in order.
-pub(crate) fn know_flows<C: Course, F: RoundFlow, R: Wait>(
+pub(crate) fn know_flows<C: Course, F: GivenFlow, R: Wait>(
     rt: &R,
     alloc: Global,
     flows: &[LockedRunFlow<C, F>],
@@ -63,7 +62,7 @@ pub(crate) fn know_flows<C: Course, F: RoundFlow, R: Wait>(
 
 /// What is known of a flow before the first round. The call waits forever if its lock has another one: a lock's type
 /// can't say that the lock kept the flow.
-fn know_flow<C: Course, F: RoundFlow, R: Wait>(
+fn know_flow<C: Course, F: GivenFlow, R: Wait>(
     rt: &R,
     flow: &RunFlow<C, F>,
     number: u32,
@@ -113,7 +112,7 @@ pub(crate) fn none_left(asks: &[Ask]) -> bool
 
 /// A flow's part of a round, and what is known of the flow then. The call waits forever if the flow isn't in its lock,
 /// through the rounds before: a lock's type can't say that the lock kept it.
-pub(crate) fn do_part<C: Course, F: RoundFlow, R: Wait>(
+pub(crate) fn do_part<C: Course, F: GivenFlow, R: Wait>(
     rt: &R,
     alloc: Global,
     flows: &[LockedRunFlow<C, F>],
@@ -131,7 +130,7 @@ pub(crate) fn do_part<C: Course, F: RoundFlow, R: Wait>(
 
 // A function of its own: its exits have no lock to give back.
 /// The part of a flow that is locked, if the flow is through the rounds before.
-fn hear_part<C: Course, F: RoundFlow, R: Wait>(
+fn hear_part<C: Course, F: GivenFlow, R: Wait>(
     rt: &R,
     alloc: Global,
     flow: &mut RunFlow<C, F>,
@@ -150,13 +149,13 @@ fn hear_part<C: Course, F: RoundFlow, R: Wait>(
 
 /// The flows of a run that ends after this many rounds, in order, each of which takes and answers until nothing is
 /// left.
-pub(crate) fn close_flows<C: Course, F: RoundFlow, R: Wait>(
+pub(crate) fn close_flows<C: Course, F: GivenFlow, R: Wait>(
     rt: &R,
     alloc: Global,
     flows: Vec<LockedRunFlow<C, F>>,
     known: &KnownFlows<C>,
     round: u32,
-) -> Result<Vec<SharedFlow<F>>, NoMemory>
+) -> Result<Vec<TalliedFlow<F>>, NoMemory>
     requires flows { length flows.items ≡ length (flows_after C.link C.cases round) }
     requires few { length flows.items ≤ most_flows }
     requires all { length known.now ≡ length flows.items }
@@ -174,12 +173,12 @@ pub(crate) fn close_flows<C: Course, F: RoundFlow, R: Wait>(
 }
 
 /// The flow of a run that ends after as many rounds as it is known: it takes and answers until nothing is left.
-fn close_flow<C: Course, F: RoundFlow, R: Wait>(
+fn close_flow<C: Course, F: GivenFlow, R: Wait>(
     rt: &R,
     alloc: Global,
     flow: LockedRunFlow<C, F>,
     known: &KnownFlow<C>,
-) -> Result<SharedFlow<F>, NoMemory>
+) -> Result<TalliedFlow<F>, NoMemory>
     ensures { IfOk result (λ shared.
         slice_get (map (kept_at F.at) (map (closed_flow over_codes) (flows_after C.link C.cases known.now.round)))
         known.now.number
@@ -187,6 +186,6 @@ fn close_flow<C: Course, F: RoundFlow, R: Wait>(
 {
     let flow = flow.into_inner().into_inner();
     let mut flow = flow.into_flow(rt, known);
-    flow.close(alloc)?;
+    close(&mut flow, alloc)?;
     Ok(flow)
 }

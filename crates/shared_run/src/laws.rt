@@ -1,7 +1,8 @@
 //! Laws of the definitions: letters that take no acknowledgement end, and rows count all reports.
 ghost use Rattle.ccp_base.specs.declared.place.Place.{Place};
 ghost use Rattle.flow_core.specs.Readings.{over_codes};
-ghost use Rattle.shared_run.specs.RoundLetters.{CaseReading, SettlingEnds};
+ghost use Rattle.campaign_core.specs.FlowRow.{CaseReading};
+ghost use Rattle.shared_run.specs.RoundLetters.{SettlingEnds};
 ghost use Rattle.shared_run.specs.SharedReports.{RowsCountReports};
 
 /// What holds of every flow, on the way and at the run's end: after it has taken and answered as often as the

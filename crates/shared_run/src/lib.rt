@@ -13,7 +13,6 @@ mod line;
 mod order;
 mod part_desk;
 mod round_acks;
-mod round_flow;
 mod rounds;
 mod run;
 mod run_flow;

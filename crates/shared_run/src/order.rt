@@ -10,8 +10,8 @@ use crate::desk::Desk;
 use crate::known_flow::{KnownFlows, PassedPart};
 use crate::part_desk::PartDesk;
 use crate::round_acks::RoundAcks;
-use crate::round_flow::RoundFlow;
 use crate::run_flow::LockedRunFlow;
+use campaign_core::GivenFlow;
 use ccp_base::{Gate, NoMemory};
 use std::alloc::Global;
 use std::marker::Model;
@@ -129,7 +129,7 @@ impl<C: Course> Order<C> {
     }
 
     /// Does the parts on a thread. Each then has what is known of its flow.
-    pub(crate) fn do_parts<F: RoundFlow, R: Wait, G: Gate>(
+    pub(crate) fn do_parts<F: GivenFlow, R: Wait, G: Gate>(
         &mut self,
         rt: &R,
         alloc: Global,
@@ -145,7 +145,7 @@ impl<C: Course> Order<C> {
 
     /// Does the parts here, after which the desk has what is known of their flows. The order is without a part then, and
     /// keeps its memory.
-    pub(crate) fn do_here<F: RoundFlow, R: Wait, G: Gate>(
+    pub(crate) fn do_here<F: GivenFlow, R: Wait, G: Gate>(
         &mut self,
         rt: &R,
         alloc: Global,
@@ -213,7 +213,7 @@ fn acks_of<C: Course>(part: &Option<Part<C>>) -> usize {
 }
 
 /// Does parts of a worker on its thread.
-fn do_all<C: Course, F: RoundFlow, R: Wait, G: Gate>(
+fn do_all<C: Course, F: GivenFlow, R: Wait, G: Gate>(
     rt: &R,
     alloc: Global,
     flows: &[LockedRunFlow<C, F>],
@@ -232,7 +232,7 @@ fn do_all<C: Course, F: RoundFlow, R: Wait, G: Gate>(
 }
 
 /// Does the last part of a worker on its thread, if it has any.
-fn do_last<C: Course, F: RoundFlow, R: Wait, G: Gate>(
+fn do_last<C: Course, F: GivenFlow, R: Wait, G: Gate>(
     rt: &R,
     alloc: Global,
     flows: &[LockedRunFlow<C, F>],
@@ -251,7 +251,7 @@ fn do_last<C: Course, F: RoundFlow, R: Wait, G: Gate>(
 }
 
 /// Does a part of a worker on its thread.
-fn do_one<C: Course, F: RoundFlow, R: Wait, G: Gate>(
+fn do_one<C: Course, F: GivenFlow, R: Wait, G: Gate>(
     rt: &R,
     alloc: Global,
     flows: &[LockedRunFlow<C, F>],
@@ -267,7 +267,7 @@ fn do_one<C: Course, F: RoundFlow, R: Wait, G: Gate>(
 }
 
 /// Does parts of a worker here, in order, and keeps what is known of their flows.
-fn know_all<C: Course, F: RoundFlow, R: Wait, G: Gate>(
+fn know_all<C: Course, F: GivenFlow, R: Wait, G: Gate>(
     rt: &R,
     alloc: Global,
     flows: &[LockedRunFlow<C, F>],
@@ -288,7 +288,7 @@ fn know_all<C: Course, F: RoundFlow, R: Wait, G: Gate>(
 }
 
 /// Does the last part of a worker here, if it has any, and keeps what is known of its flow.
-fn know_last<C: Course, F: RoundFlow, R: Wait, G: Gate>(
+fn know_last<C: Course, F: GivenFlow, R: Wait, G: Gate>(
     rt: &R,
     alloc: Global,
     flows: &[LockedRunFlow<C, F>],
@@ -307,7 +307,7 @@ fn know_last<C: Course, F: RoundFlow, R: Wait, G: Gate>(
 }
 
 /// Does a part of a worker here, and keeps what is known of its flow.
-fn know_one<C: Course, F: RoundFlow, R: Wait, G: Gate>(
+fn know_one<C: Course, F: GivenFlow, R: Wait, G: Gate>(
     rt: &R,
     alloc: Global,
     flows: &[LockedRunFlow<C, F>],
@@ -325,7 +325,7 @@ fn know_one<C: Course, F: RoundFlow, R: Wait, G: Gate>(
 }
 
 /// Runs a part of a worker between its two points of the gate, and answers what is known of its flow then.
-fn pass_part<C: Course, F: RoundFlow, R: Wait, G: Gate>(
+fn pass_part<C: Course, F: GivenFlow, R: Wait, G: Gate>(
     rt: &R,
     alloc: Global,
     flows: &[LockedRunFlow<C, F>],

@@ -6,8 +6,8 @@ use crate::course::Course;
 use crate::flows::do_part;
 use crate::known_flow::KnownFlow;
 use crate::round_acks::RoundAcks;
-use crate::round_flow::RoundFlow;
 use crate::run_flow::LockedRunFlow;
+use campaign_core::GivenFlow;
 use ccp_base::{Gate, NoMemory, Point};
 use std::alloc::Global;
 use std::sync::Wait;
@@ -16,7 +16,7 @@ use worker_desk::GatedDesk;
 /// What a worker does one part on: what the flow is given, the flows, the gate, and, once the part is done, what is
 /// known of the flow.
 #[derive(Drop)]
-pub(crate) struct PartDesk<'a, C: Course, F: RoundFlow, R: Wait, G: Gate> {
+pub(crate) struct PartDesk<'a, C: Course, F: GivenFlow, R: Wait, G: Gate> {
     pub(crate) rt: &'a R,
     pub(crate) alloc: Global,
     pub(crate) flows: &'a [LockedRunFlow<C, F>],
@@ -29,7 +29,7 @@ pub(crate) struct PartDesk<'a, C: Course, F: RoundFlow, R: Wait, G: Gate> {
 }
 
 /// The case is the part, and its number is the flow's. A part for which memory ran out is done as well.
-impl<'a, C: Course, F: RoundFlow, R: Wait, G: Gate> GatedDesk for PartDesk<'a, C, F, R, G> {
+impl<'a, C: Course, F: GivenFlow, R: Wait, G: Gate> GatedDesk for PartDesk<'a, C, F, R, G> {
     ghost use Rattle.std.specs.Prelude.{◌≡◌, None, [], ◌∷◌, map, option_map, option_to_list};
 
     type Made = (u32, u32);

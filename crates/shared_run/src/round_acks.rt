@@ -2,7 +2,7 @@
 ghost use Rattle.std.specs.Prelude.{◌≡◌, ◌+◌, ◌<◌, Some, slice_get};
 ghost use Rattle.ccp_base.specs.Limits.{most_rounds};
 ghost use Rattle.flow_core.specs.Cores.{CoreState};
-ghost use Rattle.shared_run.specs.FlowRow.{AreRoomy};
+ghost use Rattle.shared_run.specs.RoundFlows.{AreRoomy};
 ghost use Rattle.shared_run.specs.Courses.{flows_after, acks_in_round};
 
 use crate::course::Course;

@@ -13,11 +13,11 @@ use crate::known_flow::KnownFlows;
 use crate::line::Bell;
 use crate::order::{Order, begin_orders, open_orders};
 use crate::round_acks::RoundAcks;
-use crate::round_flow::RoundFlow;
 use crate::run_flow::LockedRunFlow;
 use crate::worker_handle::{WorkerHandle, do_orders, start_workers};
+use campaign_core::GivenFlow;
 use ccp_base::{Gate, NoMemory};
-use shared_link::{AckLists, SharedLink};
+use shared_link::{PackedAcks, SharedLink};
 use std::alloc::Global;
 use std::sync::Wait;
 use std::thread;
@@ -31,30 +31,31 @@ pub(crate) struct RunEnd<C: Course> {
     pub(crate) known: KnownFlows<C>,
 }
 
-/// Puts the parts of a round into the orders of their workers: a flow that has acknowledgements is a part of worker
-/// `f mod workers`. A flow without acknowledgements stays as it is, and the link gets its list back.
+/// Puts the parts of a round into the orders of their workers, and takes them out of `lists`, which keeps its memory: a
+/// flow that has acknowledgements is a part of worker `f mod workers`. A flow without acknowledgements stays as it is,
+/// and the link gets its list back.
 fn deal<C: Course>(
     desk: &mut Desk<C>,
     orders: &mut [Order<C>],
-    lists: AckLists,
+    lists: &mut Vec<PackedAcks>,
     round: u32,
     workers: u32,
 ) -> Result<(), NoMemory>
     requires workers { 1 ≤ workers }
     requires within { IsWithin C.link }
-    requires lists { lists ≡ acks_in_round C.link C.cases round }
-    requires few { length lists ≤ most_flows }
+    requires lists { lists.old.items ≡ acks_in_round C.link C.cases round }
+    requires few { length lists.old.items ≤ most_flows }
     requires round { round < most_rounds }
     requires none { AreDealt workers round [] orders.old }
     requires known { AreKnown desk.old.known round }
-    requires places { length lists ≤ length desk.old.known }
+    requires places { length lists.old.items ≤ length desk.old.known }
     ensures link { desk.new.link ≡ desk.old.link }
     ensures count { OnOk result (length desk.new.known ≡ length desk.old.known) }
-    ensures rested { OnOk result (AreRested round lists desk.new.known) }
-    ensures orders { OnOk result (AreDealt workers round lists orders.new) }
+    ensures rested { OnOk result (AreRested round lists.old.items desk.new.known) }
+    ensures orders { OnOk result (AreDealt workers round lists.old.items orders.new) }
 {
     let mut number = 0;
-    for list in lists.into_vec() {
+    for list in lists.drain(..) {
         let acks = RoundAcks::new(list, number, round);
         deal_part(desk, orders, acks, workers)?;
         number += 1;
@@ -100,12 +101,14 @@ fn worker_of(flow: u32, workers: u32) -> u32
 }
 
 /// One more round, in which the flows ask for what the desk has: the link answers, and each flow does its part on its
-/// worker. Then the desk has what they ask for next.
-fn run_round<'e, C: Course, F: RoundFlow, R: Wait, G: Gate>(
+/// worker. Then the desk has what they ask for next. `lists` is for the link's answers, and only keeps its memory from
+/// round to round.
+fn run_round<'e, C: Course, F: GivenFlow, R: Wait, G: Gate>(
     rt: &R,
     alloc: Global,
     flows: &[LockedRunFlow<C, F>],
     desk: &mut Desk<C>,
+    lists: &mut Vec<PackedAcks>,
     orders: &mut [Order<C>],
     handles: &mut [WorkerHandle<'e, C>],
     done: u32,
@@ -127,7 +130,7 @@ fn run_round<'e, C: Course, F: RoundFlow, R: Wait, G: Gate>(
     ensures asks { OnOk result (desk.new.asks.items ≡ asks_in C.link C.cases (done + 1)) }
     ensures stands { OnOk result (StandsAfter C.link C.cases (done + 1) desk.new.link) }
 {
-    let lists = desk.link.round(alloc, desk.asks.as_slice())?;
+    desk.link.round_into(alloc, desk.asks.as_slice(), lists)?;
     let workers = handles.len() as u32;
     begin_orders(orders, done);
     deal(desk, orders, lists, done, workers)?;
@@ -136,7 +139,7 @@ fn run_round<'e, C: Course, F: RoundFlow, R: Wait, G: Gate>(
 }
 
 /// Rounds until all flows have all acknowledgements, at most `most`. Answers how many there were.
-fn run_rounds<'e, C: Course, F: RoundFlow, R: Wait, G: Gate>(
+fn run_rounds<'e, C: Course, F: GivenFlow, R: Wait, G: Gate>(
     rt: &R,
     alloc: Global,
     flows: &[LockedRunFlow<C, F>],
@@ -160,10 +163,13 @@ fn run_rounds<'e, C: Course, F: RoundFlow, R: Wait, G: Gate>(
 {
     let mut kept = open_orders(alloc, handles.len() as u32)?;
     let orders = kept.as_mut_slice();
+    let mut lists = Vec::new(alloc);
     let mut done = 0;
     collect_asks(&desk.known, 0, &mut desk.asks)?;
     while done < most {
-        run_round(rt, alloc, flows, desk, orders, handles, done, gate)?;
+        run_round(
+            rt, alloc, flows, desk, &mut lists, orders, handles, done, gate,
+        )?;
         done += 1;
         if none_left(desk.asks.as_slice()) {
             return Ok(done);
@@ -177,7 +183,7 @@ fn run_rounds<'e, C: Course, F: RoundFlow, R: Wait, G: Gate>(
 pub(crate) fn run_by_workers<
     'e,
     C: Course + Send + Sync + 'e,
-    F: RoundFlow + Send + 'e,
+    F: GivenFlow + Send + 'e,
     R: Threads + Wait + Sync,
     G: Gate + Sync,
 >(

@@ -12,13 +12,11 @@ ghost use Rattle.shared_run.specs.LiftedRun.{RunHoldsForSources};
 
 use crate::books::{SharedRows, SharedRun, givens_of, rows_of};
 use crate::course::Course;
-use crate::flow::SharedFlow;
 use crate::flows::{close_flows, open_flows};
 use crate::line::Bell;
-use crate::round_flow::{BareFlow, RoundFlow};
 use crate::rounds::run_by_workers;
 use crate::run_flow::LockedRunFlow;
-use campaign_core::Cases;
+use campaign_core::{BareFlow, Cases, GivenFlow, TalliedFlow};
 use ccp_base::{Gate, NoMemory, Workers};
 use flow_core::{Case, Core};
 use scene_core::SharedScene;
@@ -97,13 +95,13 @@ pub fn shared_rows<R: Threads + Wait + Sync, G: Gate + Sync>(
 
 /// A run at its end: its flows, of which nothing is left to take or to answer, in order, and the link's packets.
 #[derive(Drop)]
-struct ClosedRun<F: RoundFlow> {
-    flows: Vec<SharedFlow<F>>,
+struct ClosedRun<F: GivenFlow> {
+    flows: Vec<TalliedFlow<F>>,
     counts: Counts,
 }
 
 /// The run, over the codes of the cases.
-fn run<F: RoundFlow + Send, R: Threads + Wait + Sync, G: Gate + Sync>(
+fn run<F: GivenFlow + Send, R: Threads + Wait + Sync, G: Gate + Sync>(
     rt: &R,
     alloc: Global,
     scene: SharedScene,
@@ -129,7 +127,7 @@ fn run<F: RoundFlow + Send, R: Threads + Wait + Sync, G: Gate + Sync>(
 
 /// A run before its first round.
 #[derive(Drop)]
-struct OpenRun<C: Course, F: RoundFlow> {
+struct OpenRun<C: Course, F: GivenFlow> {
     link: SharedLink,
     flows: Vec<LockedRunFlow<C, F>>,
     /// A bell for each worker.
@@ -139,7 +137,7 @@ struct OpenRun<C: Course, F: RoundFlow> {
 /// The run of these cases over their link for at most `most` rounds. Its parts have types that name it.
 fn run_course<
     C: Course + Send + Sync,
-    F: RoundFlow + Send,
+    F: GivenFlow + Send,
     R: Threads + Wait + Sync,
     G: Gate + Sync,
 >(
@@ -179,7 +177,7 @@ fn run_course<
 
 // A function of its own: each of its exits drops little, and its caller has one exit for all of them.
 /// The run before its first round.
-fn open_run<C: Course, F: RoundFlow>(
+fn open_run<C: Course, F: GivenFlow>(
     alloc: Global,
     link: SharedCase,
     cases: Cases,

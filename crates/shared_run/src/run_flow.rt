@@ -3,10 +3,10 @@ ghost use Rattle.std.specs.Prelude.{◌≡◌, ◌+◌, ◌↔◌, Some, length,
 ghost use Rattle.shared_run.specs.RoundFlows.{run_flow_in};
 
 use crate::course::Course;
-use crate::flow::SharedFlow;
+use crate::flow::{ask_of, run_part};
 use crate::known_flow::KnownFlow;
 use crate::round_acks::RoundAcks;
-use crate::round_flow::RoundFlow;
+use campaign_core::{GivenFlow, TalliedFlow};
 use ccp_base::NoMemory;
 use crossbeam_utils::CachePadded;
 use std::alloc::Global;
@@ -16,8 +16,8 @@ use std::sync::{Mutex, Wait};
 /// A flow of a run, its number, and how many rounds it is through. Unless its part of a round ran out of memory, it is
 /// that flow of the run after these rounds.
 #[derive(Drop)]
-pub(crate) struct RunFlow<C: Course, F: RoundFlow> {
-    flow: SharedFlow<F>,
+pub(crate) struct RunFlow<C: Course, F: GivenFlow> {
+    flow: TalliedFlow<F>,
     number: u32,
     round: u32,
     /// What its last part of a round answered.
@@ -30,9 +30,9 @@ pub(crate) struct RunFlow<C: Course, F: RoundFlow> {
 /// threads that write values of one line take it from each other at each write.
 pub(crate) type LockedRunFlow<C, F> = CachePadded<Mutex<RunFlow<C, F>>>;
 
-impl<C: Course, F: RoundFlow> RunFlow<C, F> {
+impl<C: Course, F: GivenFlow> RunFlow<C, F> {
     /// A flow before the first round.
-    pub(crate) fn begin(flow: SharedFlow<F>, number: u32) -> Self
+    pub(crate) fn begin(flow: TalliedFlow<F>, number: u32) -> Self
         requires { run_flow_in F.at C.link C.cases 0 number ≡ Some (flow.flow, flow.tally) }
     {
         RunFlow {
@@ -59,7 +59,7 @@ impl<C: Course, F: RoundFlow> RunFlow<C, F> {
         ensures round { IfOk result (λ known. known.round ≡ self.now.round) }
     {
         match self.heard {
-            Ok(()) => Ok(KnownFlow::new(self.number, self.round, self.flow.ask())),
+            Ok(()) => Ok(KnownFlow::new(self.number, self.round, ask_of(&self.flow))),
             Err(error) => Err(error),
         }
     }
@@ -74,7 +74,7 @@ impl<C: Course, F: RoundFlow> RunFlow<C, F> {
         ensures through { IsOk self.new.heard → self.new.round ≡ acks.now.round + 1 }
         ensures nothing { length acks.now.acks ≡ 0 → IsOk self.new.heard }
     {
-        match self.flow.part(alloc, acks.acks.as_slice()) {
+        match run_part(&mut self.flow, alloc, acks.acks.as_slice()) {
             Ok(()) => self.round = acks.round + 1,
             Err(error) => self.heard = Err(error),
         }
@@ -82,7 +82,7 @@ impl<C: Course, F: RoundFlow> RunFlow<C, F> {
 
     /// That flow, which has rested since its last acknowledgement as the caller knows. The call waits forever if it
     /// isn't the flow that the caller knows: a lock's type can't say that the lock kept it.
-    pub(crate) fn into_flow<R: Wait>(self, rt: &R, known: &KnownFlow<C>) -> SharedFlow<F>
+    pub(crate) fn into_flow<R: Wait>(self, rt: &R, known: &KnownFlow<C>) -> TalliedFlow<F>
         ensures { run_flow_in F.at C.link C.cases known.now.round known.now.number ≡ Some (result.flow, result.tally) }
     {
         if !self.is_at(known.number, known.since) {

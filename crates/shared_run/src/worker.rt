@@ -2,14 +2,14 @@
 use crate::course::Course;
 use crate::dealt::Dealt;
 use crate::line::{Receiver, Sender};
-use crate::round_flow::RoundFlow;
 use crate::run_flow::LockedRunFlow;
+use campaign_core::GivenFlow;
 use ccp_base::Gate;
 use std::alloc::Global;
 use std::sync::Wait;
 
 /// Does the orders that come, and sends each back after its parts, until no more can come.
-pub(crate) fn serve<'e, C: Course, F: RoundFlow, R: Wait, G: Gate>(
+pub(crate) fn serve<'e, C: Course, F: GivenFlow, R: Wait, G: Gate>(
     rt: &R,
     alloc: Global,
     flows: &[LockedRunFlow<C, F>],

@@ -11,9 +11,9 @@ use crate::dealt::Dealt;
 use crate::desk::Desk;
 use crate::line::{Bell, Receiver, Sender, line};
 use crate::order::Order;
-use crate::round_flow::RoundFlow;
 use crate::run_flow::LockedRunFlow;
 use crate::worker::serve;
+use campaign_core::GivenFlow;
 use ccp_base::{Gate, NoMemory};
 use std::alloc::Global;
 use std::sync::Wait;
@@ -39,7 +39,7 @@ pub(crate) fn start_workers<
     's,
     'e,
     C: Course + Send + Sync + 'e,
-    F: RoundFlow + Send + 'e,
+    F: GivenFlow + Send + 'e,
     R: Threads + Wait + Sync,
     G: Gate + Sync,
 >(
@@ -69,7 +69,7 @@ fn start_worker<
     's,
     'e,
     C: Course + Send + Sync + 'e,
-    F: RoundFlow + Send + 'e,
+    F: GivenFlow + Send + 'e,
     R: Threads + Wait + Sync,
     G: Gate + Sync,
 >(
@@ -172,7 +172,7 @@ const FEW_ACKS: usize = 2048;
 /// Does all orders of a round, and leaves no part in them: then the caller knows every flow that has a part. In a round
 /// with few acknowledgements the caller does all of them. Else it does the first one that has a part, beside the threads
 /// that do the others: a thread is woken only if two workers have parts.
-pub(crate) fn do_orders<'e, C: Course, F: RoundFlow, R: Wait, G: Gate>(
+pub(crate) fn do_orders<'e, C: Course, F: GivenFlow, R: Wait, G: Gate>(
     rt: &R,
     alloc: Global,
     flows: &[LockedRunFlow<C, F>],
@@ -209,7 +209,7 @@ fn acks_in<C: Course>(orders: &[Order<C>]) -> usize {
 }
 
 /// Does all orders here, the last one first, and leaves no part in them.
-fn do_all_here<C: Course, F: RoundFlow, R: Wait, G: Gate>(
+fn do_all_here<C: Course, F: GivenFlow, R: Wait, G: Gate>(
     rt: &R,
     alloc: Global,
     flows: &[LockedRunFlow<C, F>],
@@ -237,7 +237,7 @@ fn do_all_here<C: Course, F: RoundFlow, R: Wait, G: Gate>(
 }
 
 /// Does the first order that has a part here, and the others on their workers' threads, and leaves no part in them.
-fn do_by_threads<'e, C: Course, F: RoundFlow, R: Wait, G: Gate>(
+fn do_by_threads<'e, C: Course, F: GivenFlow, R: Wait, G: Gate>(
     rt: &R,
     alloc: Global,
     flows: &[LockedRunFlow<C, F>],
@@ -274,7 +274,7 @@ fn do_by_threads<'e, C: Course, F: RoundFlow, R: Wait, G: Gate>(
 }
 
 /// Does the order in this place here, if there is one.
-fn do_first<C: Course, F: RoundFlow, R: Wait, G: Gate>(
+fn do_first<C: Course, F: GivenFlow, R: Wait, G: Gate>(
     rt: &R,
     alloc: Global,
     flows: &[LockedRunFlow<C, F>],
@@ -313,7 +313,7 @@ fn idle_at_front<C: Course>(orders: &[Order<C>]) -> usize
 }
 
 /// Hands the orders from this place on that have a part to their workers' threads, or does them here.
-fn hand_out_all<'e, C: Course, F: RoundFlow, R: Wait, G: Gate>(
+fn hand_out_all<'e, C: Course, F: GivenFlow, R: Wait, G: Gate>(
     rt: &R,
     alloc: Global,
     flows: &[LockedRunFlow<C, F>],
@@ -351,7 +351,7 @@ fn hand_out_all<'e, C: Course, F: RoundFlow, R: Wait, G: Gate>(
 }
 
 /// Hands an order to its worker's thread. If that doesn't have it then, the order is done here.
-fn hand_out<'e, C: Course, F: RoundFlow, R: Wait, G: Gate>(
+fn hand_out<'e, C: Course, F: GivenFlow, R: Wait, G: Gate>(
     rt: &R,
     alloc: Global,
     flows: &[LockedRunFlow<C, F>],

@@ -31,14 +31,14 @@ outcome-parts flow ack held env s = λ i. record (step_outcome flow ack (held, e
 outcome-parts flow ack (reported fields) env s = λ i. record (step_outcome flow ack (reported fields, env) s) { faults = sym (plus-none s.faults) i; held = sym (plus-none s.held) i }
 outcome-parts flow ack (failed fault) env s = λ i. record (step_outcome flow ack (failed fault, env) s) { waiting = sym (append-nil s.waiting) i; held = sym (plus-none s.held) i }
 
-module _ (source : SourceCase) (s : State) (link : LinkState) (ack : Ack) (outcome : Outcome Cause) (env : Env) (put : State)
+module _ (source : SourceCase) (s : State) (link : LinkState) (ack : Ack) (outcome : Outcome Cause) (env spare : Env) (put : State)
     (met : outcome_at (flow_over_sources source) ack (summary_in s) ≡ (outcome, env)) where
   abbrev flow : Flow Place
   flow = flow_over_sources source
 
   -- what is kept between: the env is the next one
   abbrev pub between : State
-  between = record s { link = link; present = record s.present { env = env; is_stopped = stops outcome } }
+  between = record s { link = link; present = record s.present { env = env; spare = spare; is_stopped = stops outcome } }
 
   abbrev pub final : State
   final = record put { acks = put.acks + 1; time = ack.now }

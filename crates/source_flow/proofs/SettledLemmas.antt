@@ -159,6 +159,7 @@ module _ (source : SourceCase) (s : State) (issued : Issued) (agent : Agent) (re
       let whole : IsSourceSound source literal = record {
         matched = sound.matched;
         shape = obeys.shape;
+        spare = obeys.spare;
         roles =
             subst (λ (pair : Agent × Reply). AreRoles source.case.now.ss.role source.case.now.ca.role (course_of pair.0)) (sym turned)
             (roles-kept source.case.now.ss.role source.case.now.ca.role s.agent issued.told sound.roles);

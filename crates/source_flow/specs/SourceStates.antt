@@ -1,13 +1,13 @@
 -- What is kept of a flow over its sources, and what holds of it.
-use Rattle.std.specs.Prelude.{◌≡◌, ℕ, ◌+◌, ◌≤◌, Option, Some, None, [], ◌∷◌, ◌++◌, length, map}
+use Rattle.std.specs.Prelude.{◌≡◌, ℕ, ◌+◌, ◌≤◌, Option, Some, None, List, [], ◌∷◌, ◌++◌, length, map}
 use Rattle.ccp_base.specs.Limits.{most_fields}
 use Rattle.ccp_base.specs.declared.place.Place.{Place}
 use Rattle.link_model.specs.Standing.{Stands}
-use Rattle.portus_core.specs.declared.env.Mean.{Mean}
+use Rattle.portus_core.specs.declared.env.Effect.{Effect}
 use Rattle.portus_core.specs.Value.{Cause}
 use Rattle.portus_core.specs.Programs.{Form}
 use Rattle.portus_core.specs.ProgramForm.{form_of}
-use Rattle.portus_core.specs.OneAcknowledgement.{IsEnvOf}
+use Rattle.portus_core.specs.OneAcknowledgement.{IsEnvOf, mean_with}
 use Rattle.portus_core.specs.Epoch.{Outcome, stopped, outcome_of}
 use Rattle.agent_core.specs.Agents.{course_of}
 use Rattle.agent_core.specs.RoleLaws.{AreRoles}
@@ -29,10 +29,11 @@ form_at source = by_number source.case.now (form_of source.ss.now) (form_of sour
 abbrev pub flow_over_sources : SourceCase → Flow Place
 flow_over_sources source = over_sources source.case.now (form_of source.ss.now) (form_of source.ca.now)
 
--- the outcome of an acknowledgement: nothing if its epoch was stopped
-abbrev pub outcome_met : Option Mean → Outcome Cause
-outcome_met None = stopped
-outcome_met (Some mean) = outcome_of mean
+-- the outcome of an acknowledgement with this effect, and with these fields of a report; nothing if its epoch was
+-- stopped
+abbrev pub outcome_met : List ℕ → Option Effect → Outcome Cause
+outcome_met fields None = stopped
+outcome_met fields (Some effect) = outcome_of (mean_with fields effect)
 
 -- ---- what is kept
 
@@ -76,11 +77,12 @@ pub record AreMatched (source : SourceCase) : Type 0 where
   pub ss_fields : length (form_of source.ss.now).fields ≤ most_fields
   pub ca_fields : length (form_of source.ca.now).fields ≤ most_fields
 
--- the env is one of the present program, the agent has the case's roles, the link is the case's, and the counts are in
--- range: each acknowledgement makes one report or fault at most, and each change is the answer to one
+-- the env and the spare one are of the present program, the agent has the case's roles, the link is the case's, and the
+-- counts are in range: each acknowledgement makes one report or fault at most, and each change is the answer to one
 pub record IsSourceSound (source : SourceCase) (s : State) : Type 0 where
   pub matched : AreMatched source
   pub shape : IsEnvOf (form_at source s.present.epoch.program) s.present.env
+  pub spare : IsEnvOf (form_at source s.present.epoch.program) s.present.spare
   pub roles : AreRoles source.case.now.ss.role source.case.now.ca.role (course_of s.agent)
   pub link : s.link.case ≡ source.case.now.link
   pub calls : s.link.standing.calls ≡ s.acks

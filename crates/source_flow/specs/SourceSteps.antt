@@ -1,11 +1,12 @@
 -- What the steps of a flow over its sources change of what is kept.
 use Rattle.std.specs.Prelude.{◌≡◌, ℕ, ◌+◌, ◌<◌, ◌≤◌, Bool, Option, None, List, [], ◌∷◌, ◌++◌, length, map}
-use Rattle.ccp_base.specs.Limits.{most_acks}
+use Rattle.ccp_base.specs.Limits.{most_acks, most_fields}
 use Rattle.ccp_base.specs.declared.ack.Ack.{Ack}
 use Rattle.ccp_base.specs.declared.exchange.Reply.{Reply}
 use Rattle.ccp_base.specs.declared.exchange.Reply.TheVariants.{Nothing, Update, Change}
 use Rattle.ccp_base.specs.FieldReg.{Pair, first_bad_pair}
-use Rattle.portus_core.specs.declared.env.Mean.{Mean}
+use Rattle.flow_core.specs.Books.{line_of}
+use Rattle.portus_core.specs.declared.env.Effect.{Effect}
 use Rattle.portus_core.specs.Value.{Cause}
 use Rattle.portus_core.specs.Programs.{Form}
 use Rattle.portus_core.specs.OneAcknowledgement.{IsEnvOf}
@@ -15,7 +16,6 @@ use Rattle.agent_core.specs.Agents.{values_of}
 use Rattle.flow_core.specs.declared.bare.Issued.{Issued}
 use Rattle.flow_core.specs.declared.book.EpochLine.{EpochLine}
 use Rattle.flow_core.specs.declared.book.TicketLine.{TicketLine}
-use Rattle.flow_core.specs.RunningEpochs.{line_of}
 use Rattle.flow_core.specs.World.{failures_met}
 use Rattle.flow_core.specs.States.{some_count}
 use Rattle.flow_core.specs.Summaries.{Summary, step_reply}
@@ -26,17 +26,19 @@ use Rattle.source_flow.specs.declared.source_case.SourceCase.{SourceCase}
 use Rattle.source_flow.specs.SourceAccounts.{failure_of}
 use Rattle.source_flow.specs.SourceStates.{form_at, flow_over_sources, outcome_met, summary_in}
 
--- the counts are in range
+-- the counts are in range, and a report has no more fields than there may be
 pub record CanRecord (s : State) : Type 0 where
   pub acks : s.acks < most_acks
   pub held : s.held < most_acks
+  pub fields : length s.present.spare.fields ≤ most_fields
 
 -- the outcome of an acknowledgement by the program of an epoch, and the epoch after it
-pub record HasRun (form : Form) (ack : Ack) (room : Bool) (old new : Present) (mean : Option Mean) : Type 0 where
-  pub met : heard (by_source form) old.is_stopped old.env ack room ≡ (outcome_met mean, new.env)
-  pub stopped : new.is_stopped ≡ stops (outcome_met mean)
+pub record HasRun (form : Form) (ack : Ack) (room : Bool) (old new : Present) (effect : Option Effect) : Type 0 where
+  pub met : heard (by_source form) old.is_stopped old.env ack room ≡ (outcome_met new.spare.fields effect, new.env)
+  pub stopped : new.is_stopped ≡ stops (outcome_met new.spare.fields effect)
   pub shape : IsEnvOf form new.env
-  pub frame : new ≡ record old { env = new.env; is_stopped = new.is_stopped }
+  pub spare : IsEnvOf form new.spare
+  pub frame : new ≡ record old { env = new.env; spare = new.spare; is_stopped = new.is_stopped }
 
 -- what an outcome changes in a flow with this number, of whatever case: it makes the summary after it, leaves at most one
 -- report or notice more to take, and holds at most one report
@@ -79,6 +81,7 @@ pub record Becomes (source : SourceCase) (next : Summary) (started : List EpochL
   pub step : summary_in new ≡ next
   pub epochs : new.epochs ≡ old.epochs ++ started
   pub shape : IsEnvOf (form_at source new.present.epoch.program) new.present.env
+  pub spare : IsEnvOf (form_at source new.present.epoch.program) new.present.spare
   pub frame : new ≡ record old { present = new.present; untold = new.untold; epochs = new.epochs }
 
 -- a change starts this program with these values, and with it an epoch, and makes an untold notice void

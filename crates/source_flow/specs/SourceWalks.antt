@@ -1,9 +1,9 @@
 -- The result of a walk along a word.
 use Rattle.std.specs.Prelude.{◌≡◌, ◌<◌, true, false, Option, Some, None, List}
 use Rattle.ccp_base.specs.FieldReg.{Pair}
+use Rattle.ccp_base.specs.RunningEpochs.{opening_epoch}
 use Rattle.flow_core.specs.declared.letter.Letter.{Letter}
 use Rattle.flow_core.specs.declared.letter.Letter.TheVariants.{A, T, C}
-use Rattle.flow_core.specs.RunningEpochs.{opening_epoch}
 use Rattle.flow_core.specs.Words.{world, legal}
 use Rattle.agent_core.specs.Agents.{opening_change, course_of, values_of}
 use Rattle.portus_core.specs.Epoch.{with_values, declared_env}
@@ -28,6 +28,7 @@ pub record OpensWith (source : SourceCase) (present : Present) : Type 0 where
   pub epoch : present.epoch ≡ opening_epoch (course_of source.case.now.agent).ss.number 0
   pub env : present.env ≡ with_values (first_values source) (declared_env (form_at source present.epoch.program) 0 0 0)
   pub shape : IsEnvOf (form_at source present.epoch.program) present.env
+  pub spare : IsEnvOf (form_at source present.epoch.program) present.spare
   pub running : present.is_stopped ≡ false
 
 -- the state after a legal word

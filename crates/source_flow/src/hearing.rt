@@ -1,6 +1,6 @@
 //! An acknowledgement: its program's source gives its outcome, which is recorded.
-ghost use Rattle.std.specs.Prelude.{◌≡◌, ◌<◌, OnOk, IfOk};
-ghost use Rattle.portus_core.specs.Epoch.{outcome_of};
+ghost use Rattle.std.specs.Prelude.{◌≡◌, ◌<◌, OnOk};
+ghost use Rattle.portus_core.specs.Epoch.{reported, failed};
 ghost use Rattle.portus_core.specs.OneAcknowledgement.{IsEnvOf};
 ghost use Rattle.portus_core.specs.ProgramForm.{form_of};
 ghost use Rattle.flow_core.specs.declared.letter.Letter.TheVariants.{A};
@@ -12,35 +12,28 @@ use crate::flow_account::SourceFault;
 use crate::source_case::SourceCase;
 use crate::state::{Present, State};
 use ccp_base::{Ack, FaultKind, NoMemory, Place, Values};
-use portus_core::{Mean, Program};
-use std::alloc::Global;
+use portus_core::{Effect, Program};
 
 impl Present {
-    /// The outcome of an acknowledgement by the epoch's program; None if and only if the epoch was stopped. The env
-    /// becomes the one after it.
-    fn run(
-        &mut self,
-        alloc: Global,
-        program: &Program,
-        ack: &Ack,
-        room: bool,
-    ) -> Result<Option<Mean>, NoMemory>
+    /// What the epoch's program makes of an acknowledgement; None if and only if the epoch was stopped. The env becomes
+    /// the one after it.
+    fn run(&mut self, program: &Program, ack: &Ack, room: bool) -> Option<Effect>
         requires shape { IsEnvOf (form_of program.now) self.old.env }
-        ensures { IfOk result (HasRun (form_of program.now) ack.entry.now room self.old self.new) }
+        requires spare { IsEnvOf (form_of program.now) self.old.spare }
+        ensures { HasRun (form_of program.now) ack.entry.now room self.old self.new result }
     {
         if self.is_stopped {
-            return Ok(None);
+            return None;
         }
-        let (mean, env) = program.mean(alloc, &self.env, ack, room)?;
-        self.env = env;
-        self.is_stopped = matches!(mean, Mean::Fault(_, _));
-        Ok(Some(mean))
+        let effect = program.run(&mut self.env, &mut self.spare, ack, room);
+        self.is_stopped = matches!(effect, Effect::Fault(_, _));
+        Some(effect)
     }
 }
 
 impl State {
     /// Takes the link's next acknowledgement.
-    pub(crate) fn hear(&mut self, alloc: Global, source: &SourceCase<'_>) -> Result<(), NoMemory>
+    pub(crate) fn hear(&mut self, source: &SourceCase<'_>) -> Result<(), NoMemory>
         requires sound { IsSourceSound source.now self.old }
         requires left { self.old.acks < source.now.case.now.acks }
         ensures sound { OnOk result (IsSourceSound source.now self.new) }
@@ -49,44 +42,55 @@ impl State {
         let ack = self.link.next(self.present.env.cwnd);
         let room = self.waiting.len() < source.case.slots as usize;
         let program = source.program(self.present.epoch.program);
-        let mean = self.present.run(alloc, program, &ack, room)?;
-        self.record_outcome(source.case.flow, &ack, &mean)?;
+        let effect = self.present.run(program, &ack, room);
+        self.record_outcome(source.case.flow, &ack, effect)?;
         self.acks += 1;
         self.time = ack.now;
         Ok(())
     }
 
     /// Records the outcome of an acknowledgement.
-    fn record_outcome(&mut self, flow: u32, ack: &Ack, mean: &Option<Mean>) -> Result<(), NoMemory>
+    fn record_outcome(
+        &mut self,
+        flow: u32,
+        ack: &Ack,
+        effect: Option<Effect>,
+    ) -> Result<(), NoMemory>
         requires { CanRecord self.old }
-        ensures { OnOk result (RecordsOutcome flow self.old self.new ack.entry.now (outcome_met mean.now)) }
+        ensures { OnOk result
+            (RecordsOutcome flow self.old self.new ack.entry.now (outcome_met self.old.present.spare.fields effect)) }
     {
-        match mean {
-            None | Some(Mean::Quiet) => Ok(()),
-            Some(Mean::Reported(fields)) => self.record_report(flow, ack, fields),
-            Some(Mean::Held) => {
+        match effect {
+            None | Some(Effect::Quiet) => Ok(()),
+            Some(Effect::Reported) => self.record_report(flow, ack),
+            Some(Effect::Held) => {
                 self.held += 1;
                 Ok(())
             }
-            Some(Mean::Fault(kind, place)) => self.record_fault(flow, ack, *kind, *place),
+            Some(Effect::Fault(kind, place)) => self.record_fault(flow, ack, kind, place),
         }
     }
 
-    /// Records a report with these fields.
-    fn record_report(&mut self, flow: u32, ack: &Ack, fields: &Values) -> Result<(), NoMemory>
+    // Not inlined, so that an acknowledgement without a report doesn't fill the report's places.
+    /// Records a report with the fields that were left for it.
+    #[inline(never)]
+    fn record_report(&mut self, flow: u32, ack: &Ack) -> Result<(), NoMemory>
         requires { CanRecord self.old }
         ensures { OnOk result
-            (RecordsOutcome flow self.old self.new ack.entry.now (outcome_of (Mean.Reported fields.now))) }
+            (RecordsOutcome flow self.old self.new ack.entry.now (reported self.old.present.spare.fields)) }
     {
+        let fields = Values::from_slice(self.present.spare.fields.as_slice());
         let cwnd = self.present.env.cwnd;
         let rate = self.present.env.rate;
         let epoch = &mut self.present.epoch;
-        let report = epoch.report(flow, self.acks, ack, cwnd, rate, fields);
+        let end = u64::from(self.acks) + 1;
+        let report = epoch.report(flow, end, ack.now, cwnd, rate, &fields);
         self.waiting.push_back(report)?;
         Ok(())
     }
 
     /// Records a fault of this kind at this place, and leaves its notice untold. A place has no index.
+    #[inline(never)]
     fn record_fault(
         &mut self,
         flow: u32,
@@ -95,21 +99,21 @@ impl State {
         place: Place,
     ) -> Result<(), NoMemory>
         requires { CanRecord self.old }
-        ensures { OnOk result
-            (RecordsOutcome flow self.old self.new ack.entry.now (outcome_of (Mean.Fault kind place))) }
+        ensures { OnOk result (RecordsOutcome flow self.old self.new ack.entry.now (failed (kind, place))) }
     {
         let epoch = self.present.epoch;
+        let at = u64::from(self.acks);
         let cwnd = self.present.env.cwnd;
         self.faults.push(SourceFault {
             program: epoch.program,
             epoch: epoch.number,
-            at: u64::from(self.acks),
+            at,
             kind,
             place,
             time: ack.now,
             cwnd,
         })?;
-        self.untold = Some(epoch.notice(flow, self.acks, ack, cwnd, kind, 0));
+        self.untold = Some(epoch.notice(flow, at, ack.now, cwnd, kind, 0));
         Ok(())
     }
 }

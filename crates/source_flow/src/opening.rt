@@ -1,7 +1,7 @@
 //! A flow before its first letter.
 ghost use Rattle.std.specs.Prelude.{◌≡◌, ◌∷◌, [], IfOk};
+ghost use Rattle.flow_core.specs.Books.{line_of};
 ghost use Rattle.link_model.specs.Standing.{Stands};
-ghost use Rattle.flow_core.specs.RunningEpochs.{line_of};
 ghost use Rattle.flow_core.specs.World.{opening};
 ghost use Rattle.source_flow.specs.SourceStates.{flow_over_sources, AreMatched, IsAt, IsSourceSound};
 ghost use Rattle.source_flow.specs.SourceWalks.{OpensWith};
@@ -9,8 +9,8 @@ ghost use Rattle.source_flow.specs.SourceWalks.{OpensWith};
 use crate::settling::start_env;
 use crate::source_case::SourceCase;
 use crate::state::{Present, State};
-use ccp_base::{NoMemory, Sequence};
-use flow_core::{EpochLine, RunningEpoch};
+use ccp_base::{NoMemory, RunningEpoch, Sequence};
+use flow_core::EpochLine;
 use link_model::Link;
 use std::alloc::Global;
 use std::collections::VecDeque;
@@ -24,9 +24,11 @@ fn opening_epoch(alloc: Global, source: &SourceCase<'_>) -> Result<Present, NoMe
     let epoch = RunningEpoch::opening(agent.course().ss.number, 0);
     let values = agent.values(&agent.begin());
     let env = start_env(alloc, source.program(epoch.program), &values, 0, 0, 0)?;
+    let spare = env.copy(alloc)?;
     Ok(Present {
         epoch,
         env,
+        spare,
         is_stopped: false,
     })
 }
@@ -45,7 +47,7 @@ fn opening_lines(alloc: Global, present: &Present) -> Result<Sequence<EpochLine>
     ensures { IfOk result (λ epochs. epochs ≡ line_of present.now.epoch 0 present.now.env.cwnd ∷ []) }
 {
     let mut epochs = Sequence::new(alloc);
-    epochs.push(present.epoch.line(0, present.env.cwnd))?;
+    epochs.push(EpochLine::of(&present.epoch, 0, present.env.cwnd))?;
     Ok(epochs)
 }
 

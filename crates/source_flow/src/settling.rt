@@ -14,7 +14,7 @@ use crate::source_case::SourceCase;
 use crate::state::{Present, State};
 use agent_core::Agent;
 use ccp_base::{Fields, NoMemory, Reply};
-use flow_core::{Issued, TicketLine};
+use flow_core::{EpochLine, Issued, TicketLine};
 use portus_core::{Env, Program, StartFault};
 use std::alloc::Global;
 
@@ -98,6 +98,7 @@ impl State {
         requires good { AreGood source.now agent.now reply.now }
         requires number { self.old.present.epoch.number < most_acks }
         requires shape { IsEnvOf (form_at source.now self.old.present.epoch.program) self.old.present.env }
+        requires spare { IsEnvOf (form_at source.now self.old.present.epoch.program) self.old.present.spare }
         ensures { OnOk result (Obeys source.now agent.now reply.now self.old self.new) }
     {
         match *reply {
@@ -127,11 +128,14 @@ impl State {
         let form = source.program(program);
         let cwnd = self.present.env.cwnd;
         let env = start_env(alloc, form, values, cwnd, self.present.env.rate, self.time)?;
-        let epoch = self.present.epoch.next(program, self.acks);
-        self.epochs.push(epoch.line(self.acks, env.cwnd))?;
+        let spare = env.copy(alloc)?;
+        let epoch = self.present.epoch.next(program, u64::from(self.acks));
+        self.epochs
+            .push(EpochLine::of(&epoch, self.acks, env.cwnd))?;
         self.present = Present {
             epoch,
             env,
+            spare,
             is_stopped: false,
         };
         self.untold = None;

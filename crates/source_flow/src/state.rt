@@ -1,8 +1,8 @@
 //! The state of a flow by its programs' sources: the epoch that runs, what waits, and the ticket that is out.
 use crate::flow_account::SourceFault;
 use agent_core::Agent;
-use ccp_base::{Notice, Report, Sequence};
-use flow_core::{EpochLine, Issued, RunningEpoch, TicketLine};
+use ccp_base::{Notice, Report, RunningEpoch, Sequence};
+use flow_core::{EpochLine, Issued, TicketLine};
 use link_model::Link;
 use portus_core::Env;
 use std::collections::VecDeque;
@@ -12,6 +12,8 @@ use std::collections::VecDeque;
 pub(crate) struct Present {
     pub(crate) epoch: RunningEpoch,
     pub(crate) env: Env,
+    /// What a run overwrites; after a report it has the report's fields.
+    pub(crate) spare: Env,
     /// Whether a fault stopped it.
     pub(crate) is_stopped: bool,
 }

@@ -28,7 +28,7 @@ impl State {
         ensures at { OnOk result (Makes source.now letter self.old self.new) }
     {
         match letter {
-            Letter::A => self.hear(alloc, source),
+            Letter::A => self.hear(source),
             Letter::T => {
                 self.take(source);
                 Ok(())

@@ -5,6 +5,7 @@ pub mod Logs
 pub mod Serving
 pub mod Attending
 pub mod Equipping
+pub mod Works
 pub mod EveryNth
 pub mod Cases
 -- what follows from it, whatever the answers were

@@ -4,7 +4,7 @@ ghost use Rattle.worker_desk.specs.Logs.{Logs};
 ghost use Rattle.worker_desk.specs.Attending.{taking, settling, Tends, Attends};
 
 use crate::agent_desk::AgentDesk;
-use crate::receipt::{Attended, Post};
+use crate::receipt::{AgentShare, Attended, Duty, Receipt};
 use agent_core::calls::answer;
 use agent_core::{Answer, Ticket};
 use ccp_base::Point;
@@ -13,7 +13,7 @@ use ccp_base::Point;
 /// that isn't a flow's is ignored.
 pub fn run_agent_worker<D: AgentDesk>(desk: &mut D, worker: u32) -> Attended
     requires { D.held desk.old ≡ None }
-    ensures attended { result ≡ record { worker = worker; flows = D.flows desk.old } }
+    ensures attended { result ≡ record { worker = worker; flows = D.flows desk.old; share = record {} } }
     ensures attends { Attends worker (D.flows desk.old) (D.log desk.old) (D.log desk.new) }
 {
     let flows = desk.flow_count();
@@ -22,8 +22,12 @@ pub fn run_agent_worker<D: AgentDesk>(desk: &mut D, worker: u32) -> Attended
             answer_one(desk, worker, flow);
         }
     }
-    Attended {
-        post: Post { worker, flows },
+    Receipt {
+        duty: Duty {
+            worker,
+            flows,
+            share: AgentShare,
+        },
     }
 }
 

@@ -5,7 +5,7 @@ ghost use Rattle.worker_desk.specs.EveryNth.{every};
 ghost use Rattle.worker_desk.specs.Cases.{cases_of_worker, begun_case, ended_case, run_events, Stops};
 
 use crate::case_desk::{CaseDesk, GatedDesk};
-use crate::receipt::{CaseDuty, CaseRun, CasesRun, WorkerCase};
+use crate::receipt::{CaseDuty, CaseRun, CasesRun, Receipt, WorkerCase};
 use ccp_base::{NoMemory, Point, Workers};
 
 /// Runs a case between its two points of the gate. If memory runs out in the case, the second point isn't passed.
@@ -24,8 +24,8 @@ pub fn run_between_points<D: GatedDesk>(
     desk.pass(worker, Point::InCase, case);
     desk.run(case)?;
     desk.pass(worker, Point::AfterCase, case);
-    Ok(CaseRun {
-        ran: WorkerCase { worker, case },
+    Ok(Receipt {
+        duty: WorkerCase { worker, case },
     })
 }
 
@@ -53,7 +53,7 @@ pub fn run_cases<D: CaseDesk>(
         run_between_points(desk, worker, case)?;
         case += workers.count();
     }
-    Ok(CasesRun {
+    Ok(Receipt {
         duty: CaseDuty {
             worker,
             workers: workers.count(),

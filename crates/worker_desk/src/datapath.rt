@@ -6,7 +6,7 @@ ghost use Rattle.worker_desk.specs.Serving.{hearing_events, flows_of_worker, tur
 
 use crate::desk::Desk;
 use crate::event::Heard;
-use crate::receipt::{Duty, Served};
+use crate::receipt::{DatapathShare, Duty, Receipt, Served};
 use crate::row::{put, row_of};
 use ccp_base::Point;
 
@@ -100,7 +100,7 @@ pub fn run_datapath_worker<D: Desk>(desk: &mut D, worker: u32, datapaths: u32) -
     requires datapaths { 1 ≤ datapaths }
     requires free { D.held desk.old ≡ None }
     ensures served { result
-        ≡ record { worker = worker; first = worker; workers = datapaths; flows = D.flows desk.old } }
+        ≡ record { worker = worker; flows = D.flows desk.old; share = record { workers = datapaths } } }
     ensures serves { Serves worker (flows_of_worker worker datapaths (D.flows desk.old))
         (D.log desk.old) (D.log desk.new) }
 {
@@ -109,12 +109,11 @@ pub fn run_datapath_worker<D: Desk>(desk: &mut D, worker: u32, datapaths: u32) -
     while count > 0 {
         count = round(desk, worker, &mut row, count);
     }
-    Served {
+    Receipt {
         duty: Duty {
             worker,
-            first: worker,
-            workers: datapaths,
             flows,
+            share: DatapathShare { workers: datapaths },
         },
     }
 }

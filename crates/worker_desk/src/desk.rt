@@ -1,85 +1,32 @@
-//! The trait for a datapath worker's desk: the flows' locks, acknowledgements, nudges and the gate.
-ghost use Rattle.std.specs.Prelude.{◌≡◌, ℕ, ◌+◌, ◌<◌, ◌≤◌, Option, Some, None, List, [], ◌∷◌};
+//! The trait for a datapath worker's desk: locks, acknowledgements and nudges.
+ghost use Rattle.std.specs.Prelude.{◌≡◌, ℕ, ◌+◌, ◌≤◌, Some, [], ◌∷◌};
 ghost use Rattle.worker_desk.specs.Logs.{Logs};
 ghost use Rattle.worker_desk.specs.Serving.{heard_count};
 ghost use Rattle.worker_desk.specs.declared.event.Heard.{Heard};
-ghost use Rattle.worker_desk.specs.declared.event.Event.{Event};
-ghost use Rattle.worker_desk.specs.declared.event.Event.TheVariants.{Passed, Locked, Unlocked, Acked, Nudged};
+ghost use Rattle.worker_desk.specs.declared.event.Event.TheVariants.{Acked, Nudged};
 
-use crate::event::{Event, Heard};
-use ccp_base::Point;
+use crate::event::Heard;
+use crate::lock_desk::LockDesk;
 
 /// What a datapath worker works on.
-pub trait Desk {
-    /// What keeps a flow's lock until it is dropped.
-    type Guard: Drop;
-
-    // what was done here, if the desk keeps that
-    ghost log: { Self → Option (List Event) };
-
-    // the flow whose lock is held
-    ghost held: { Self → Option ℕ };
-
-    // how many flows there are
-    ghost flows: { Self → ℕ };
-
-    // how many acknowledgements may still come
-    ghost coming: { Self → ℕ };
-
+pub trait Desk: LockDesk {
     // what an ask made of the flow whose lock is held, and its answer
     ghost HasAcked: { Self → Self → Heard → Type 0 } = { λ old new answer. Unit {0} };
 
-    // what a call that makes no letter of the flow whose lock is held made of it
-    ghost HasKept: { Self → Self → Type 0 } = { λ old new. Unit {0} };
-
-    // the lock that was held is the guard's, and the guard has the flow as it was
-    ghost HasReleased: { Self → Self.Guard → Type 0 } = { λ old guard. Unit {0} };
-
-    /// How many flows there are, at most 64.
-    fn flow_count(&self) -> u32
-        ensures flows { result ≡ flows self.now }
-        ensures few { result ≤ 64 };
-
-    /// Takes a flow's lock.
-    fn lock(&mut self, flow: u32)
-        requires flow { flow < flows self.old }
-        requires free { held self.old ≡ None }
-        ensures log { Logs (log self.old) (log self.new) (Locked flow ∷ []) }
-        ensures held { held self.new ≡ Some flow }
-        ensures flows { flows self.new ≡ flows self.old }
-        ensures coming { coming self.new ≡ coming self.old };
-
-    /// The guard of the flow's lock. Whoever drops it gives the lock back.
-    fn unlock(&mut self, flow: u32) -> Self::Guard
-        requires { held self.old ≡ Some flow }
-        ensures log { Logs (log self.old) (log self.new) (Unlocked flow ∷ []) }
-        ensures released { HasReleased self.old result }
-        ensures held { held self.new ≡ None }
-        ensures flows { flows self.new ≡ flows self.old }
-        ensures coming { coming self.new ≡ coming self.old };
-
     /// Asks the flow whose lock is held for its next acknowledgement.
     fn ack(&mut self, worker: u32, flow: u32) -> Heard
-        requires { held self.old ≡ Some flow }
-        ensures log { Logs (log self.old) (log self.new) (Acked worker flow result ∷ []) }
+        requires { Self.held self.old ≡ Some flow }
+        ensures log { Logs (Self.log self.old) (Self.log self.new) (Acked worker flow result ∷ []) }
         ensures acked { HasAcked self.old self.new result }
-        ensures held { held self.new ≡ held self.old }
-        ensures flows { flows self.new ≡ flows self.old }
-        ensures coming { coming self.new + heard_count result ≤ coming self.old };
-
-    /// Passes a point of the gate. The number is the flow's.
-    fn pass(&mut self, worker: u32, point: Point, flow: u32)
-        ensures log { Logs (log self.old) (log self.new) (Passed worker point flow ∷ []) }
-        ensures kept { HasKept self.old self.new }
-        ensures held { held self.new ≡ held self.old }
-        ensures flows { flows self.new ≡ flows self.old }
-        ensures coming { coming self.new ≡ coming self.old };
+        ensures held { Self.held self.new ≡ Self.held self.old }
+        ensures flows { Self.flows self.new ≡ Self.flows self.old }
+        ensures coming { Self.coming self.new + heard_count result ≤ Self.coming self.old };
 
     /// Sends an agent worker the number of a flow of which a report or a fault waits.
     fn nudge(&mut self, flow: u32)
-        ensures log { Logs (log self.old) (log self.new) (Nudged flow ∷ []) }
-        ensures kept { HasKept self.old self.new }
-        ensures held { held self.new ≡ held self.old }
-        ensures flows { flows self.new ≡ flows self.old }
-        ensures coming { coming self.new ≡ coming self.old };
+        ensures log { Logs (Self.log self.old) (Self.log self.new) (Nudged flow ∷ []) }
+        ensures kept { Self.HasKept self.old self.new }
+        ensures held { Self.held self.new ≡ Self.held self.old }
+        ensures flows { Self.flows self.new ≡ Self.flows self.old }
+        ensures coming { Self.coming self.new ≡ Self.coming self.old };
 }

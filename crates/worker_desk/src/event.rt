@@ -42,7 +42,8 @@ pub enum Event {
     Changed(u32, bool),
 }
 
-/// What a worker of a campaign did.
+/// What a worker did with a case between two points of the gate: a case of a campaign, or a flow's part of a round over
+/// one link.
 #[derive(Clone, Copy)]
 pub enum CaseEvent {
     /// Passed a point of the gate, with the worker's number and the case's.

@@ -1,17 +1,14 @@
 //! The trait for an installer's desk: texts to build, the flows' locks, entries and changes.
-ghost use Rattle.std.specs.Prelude.{◌≡◌, ℕ, ◌<◌, ◌≤◌, Bool, Option, Some, None, option_map, is_some, IfSome};
-ghost use Rattle.std.specs.Prelude.{List, [], ◌∷◌, length};
+ghost use Rattle.std.specs.Prelude.{◌≡◌, ℕ, ◌<◌, Bool, Option, Some, None, option_map, is_some, IfSome};
+ghost use Rattle.std.specs.Prelude.{[], ◌∷◌, length};
 ghost use Rattle.worker_desk.specs.Logs.{Logs};
 ghost use Rattle.worker_desk.specs.Equipping.{StepTask};
-ghost use Rattle.worker_desk.specs.declared.event.Event.{Event};
-ghost use Rattle.worker_desk.specs.declared.event.Event.TheVariants.{Passed, Locked, Unlocked, Built};
-ghost use Rattle.worker_desk.specs.declared.event.Event.TheVariants.{Installed, Changed};
+ghost use Rattle.worker_desk.specs.declared.event.Event.TheVariants.{Built, Installed, Changed};
 
-use crate::event::Event;
-use ccp_base::Point;
+use crate::lock_desk::LockDesk;
 
 /// What an installer works on.
-pub trait InstallDesk {
+pub trait InstallDesk: LockDesk {
     /// What the texts of a flow are built from. A lock isn't `Copy`, so none is in it.
     type Source: Copy;
 
@@ -20,18 +17,6 @@ pub trait InstallDesk {
 
     /// What the text of a step is built into.
     type Entry: Drop;
-
-    /// What keeps a flow's lock until it is dropped.
-    type Guard: Drop;
-
-    // what was done here, if the desk keeps that
-    ghost log: { Self → Option (List Event) };
-
-    // the flow whose lock is held
-    ghost held: { Self → Option ℕ };
-
-    // how many flows there are
-    ghost flows: { Self → ℕ };
 
     // the flow that texts are built for
     ghost flow_from: { Self.Source → ℕ };
@@ -63,24 +48,13 @@ pub trait InstallDesk {
     // what a change made of that flow, and whether there was one
     ghost HasChanged: { Self → Self → Bool → Type 0 } = { λ old new changed. Unit {0} };
 
-    // what a call that makes no letter of the flow whose lock is held made of it
-    ghost HasKept: { Self → Self → Type 0 } = { λ old new. Unit {0} };
-
-    // the lock that was held is the guard's, and the guard has the flow as it was
-    ghost HasReleased: { Self → Self.Guard → Type 0 } = { λ old guard. Unit {0} };
-
-    /// How many flows there are, at most 64.
-    fn flow_count(&self) -> u32
-        ensures flows { result ≡ flows self.now }
-        ensures few { result ≤ 64 };
-
     /// What the texts of a flow are built from.
     fn source(&self, flow: u32) -> Self::Source
-        requires flow { flow < flows self.now }
-        requires free { held self.now ≡ None }
+        requires flow { flow < Self.flows self.now }
+        requires free { Self.held self.now ≡ None }
         ensures flow { flow_from result ≡ flow }
         ensures of { IsOf self.now result flow }
-        ensures at { given_at result ≡ option_map length (log self.now) };
+        ensures at { given_at result ≡ option_map length (Self.log self.now) };
 
     /// Builds the text of a step. It has no desk, so it can't take a lock.
     fn build(source: Self::Source, step: u32) -> Self::Text
@@ -91,51 +65,28 @@ pub trait InstallDesk {
     /// The entry of a text; None if the flow has no such step, or memory ran out. Nothing was done since the text's
     /// source was given, so the text was built while no lock was held.
     fn take_entry(&mut self, text: Self::Text) -> Option<Self::Entry>
-        requires free { held self.old ≡ None }
-        requires since { source_at text ≡ option_map length (log self.old) }
-        ensures log { Logs (log self.old) (log self.new)
+        requires free { Self.held self.old ≡ None }
+        requires since { source_at text ≡ option_map length (Self.log self.old) }
+        ensures log { Logs (Self.log self.old) (Self.log self.new)
             (Built (task_of text).flow (task_of text).step (is_some result) ∷ []) }
         ensures step { IfSome result (λ entry. step_of entry ≡ (task_of text).step) }
         ensures entry { IfSome result (IsEntryOf text) }
-        ensures held { held self.new ≡ held self.old }
-        ensures flows { flows self.new ≡ flows self.old };
-
-    /// Takes a flow's lock.
-    fn lock(&mut self, flow: u32)
-        requires flow { flow < flows self.old }
-        requires free { held self.old ≡ None }
-        ensures log { Logs (log self.old) (log self.new) (Locked flow ∷ []) }
-        ensures held { held self.new ≡ Some flow }
-        ensures flows { flows self.new ≡ flows self.old };
-
-    /// The guard of the flow's lock. Whoever drops it gives the lock back.
-    fn unlock(&mut self, flow: u32) -> Self::Guard
-        requires { held self.old ≡ Some flow }
-        ensures log { Logs (log self.old) (log self.new) (Unlocked flow ∷ []) }
-        ensures released { HasReleased self.old result }
-        ensures held { held self.new ≡ None }
-        ensures flows { flows self.new ≡ flows self.old };
+        ensures held { Self.held self.new ≡ Self.held self.old }
+        ensures flows { Self.flows self.new ≡ Self.flows self.old };
 
     /// Puts an entry into the library of the flow whose lock is held, and says whether it was the next one.
     fn install(&mut self, flow: u32, entry: Self::Entry) -> bool
-        requires { held self.old ≡ Some flow }
-        ensures log { Logs (log self.old) (log self.new) (Installed flow (step_of entry) result ∷ []) }
+        requires { Self.held self.old ≡ Some flow }
+        ensures log { Logs (Self.log self.old) (Self.log self.new) (Installed flow (step_of entry) result ∷ []) }
         ensures installed { HasInstalled self.old self.new entry result }
-        ensures held { held self.new ≡ held self.old }
-        ensures flows { flows self.new ≡ flows self.old };
+        ensures held { Self.held self.new ≡ Self.held self.old }
+        ensures flows { Self.flows self.new ≡ Self.flows self.old };
 
     /// Changes the flow whose lock is held to its library's next program, and says whether there was one.
     fn change(&mut self, flow: u32) -> bool
-        requires { held self.old ≡ Some flow }
-        ensures log { Logs (log self.old) (log self.new) (Changed flow result ∷ []) }
+        requires { Self.held self.old ≡ Some flow }
+        ensures log { Logs (Self.log self.old) (Self.log self.new) (Changed flow result ∷ []) }
         ensures changed { HasChanged self.old self.new result }
-        ensures held { held self.new ≡ held self.old }
-        ensures flows { flows self.new ≡ flows self.old };
-
-    /// Passes a point of the gate. The number is the flow's.
-    fn pass(&mut self, worker: u32, point: Point, flow: u32)
-        ensures log { Logs (log self.old) (log self.new) (Passed worker point flow ∷ []) }
-        ensures kept { HasKept self.old self.new }
-        ensures held { held self.new ≡ held self.old }
-        ensures flows { flows self.new ≡ flows self.old };
+        ensures held { Self.held self.new ≡ Self.held self.old }
+        ensures flows { Self.flows self.new ≡ Self.flows self.old };
 }

@@ -7,7 +7,7 @@ ghost use Rattle.worker_desk.specs.declared.event.Event.TheVariants.{Built};
 ghost use Rattle.worker_desk.specs.Equipping.{installing, changing, tasks, tasks_at, Equips};
 
 use crate::install_desk::InstallDesk;
-use crate::receipt::{Duty, Equipped};
+use crate::receipt::{Duty, Equipped, InstallerShare, Receipt};
 use crate::row::row_of;
 use ccp_base::Point;
 
@@ -24,7 +24,11 @@ pub fn run_installer<D: InstallDesk>(
 ) -> Equipped
     requires workers { 1 ≤ workers }
     requires free { D.held desk.old ≡ None }
-    ensures equipped { result ≡ record { worker = worker; first = first; workers = workers; flows = D.flows desk.old } }
+    ensures equipped { result ≡ record {
+      worker = worker;
+      flows = D.flows desk.old;
+      share = record { first = first; workers = workers };
+    } }
     ensures equips { Equips worker (tasks (flows_of_worker first workers (D.flows desk.old)) most_steps)
         (D.log desk.old) (D.log desk.new) }
 {
@@ -33,12 +37,11 @@ pub fn run_installer<D: InstallDesk>(
     for step in 0..STEPS {
         install_row(desk, worker, step, &row[..count]);
     }
-    Equipped {
+    Receipt {
         duty: Duty {
             worker,
-            first,
-            workers,
             flows,
+            share: InstallerShare { first, workers },
         },
     }
 }

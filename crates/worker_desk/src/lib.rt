@@ -11,8 +11,10 @@ mod event;
 mod install_desk;
 mod installer;
 mod laws;
+mod lock_desk;
 mod receipt;
 mod row;
+mod work;
 
 pub use agent::run_agent_worker;
 pub use agent_desk::AgentDesk;
@@ -24,6 +26,9 @@ pub use event::{CaseEvent, Event, Heard};
 pub use install_desk::InstallDesk;
 pub use installer::run_installer;
 pub use laws::{cases_law, equipping_law, locks_law, serving_law};
+pub use lock_desk::LockDesk;
 pub use receipt::{
-    Attended, CaseDuty, CaseRun, CasesRun, Duty, Equipped, Post, Served, WorkerCase,
+    AgentShare, Attended, CaseDuty, CaseRun, CasesRun, DatapathShare, Duty, Equipped,
+    InstallerShare, Receipt, Served, WorkerCase,
 };
+pub use work::{Work, end_all};

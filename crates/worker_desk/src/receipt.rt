@@ -1,83 +1,32 @@
-//! The duties and posts of workers, and the receipts that show their work done.
+//! The duties of workers, and the receipts that show the work of a duty done.
 use std::marker::Model;
 use std::thread::Promise;
 
-/// A worker's number at the gate, and its share of the first `flows` flows: the flows `f` with `f mod workers = first`.
+/// A worker's number at the gate, how many flows there are, and its share of them, which is of another type for each
+/// kind of worker.
 #[derive(Clone, Copy)]
-pub struct Duty {
+pub struct Duty<S> {
     pub worker: u32,
+    pub flows: u32,
+    pub share: S,
+}
+
+/// The share of a datapath worker: the flows `f` with `f mod workers` its number.
+#[derive(Clone, Copy)]
+pub struct DatapathShare {
+    pub workers: u32,
+}
+
+/// The share of an installer: the flows `f` with `f mod workers = first`.
+#[derive(Clone, Copy)]
+pub struct InstallerShare {
     pub first: u32,
     pub workers: u32,
-    pub flows: u32,
 }
 
-/// The work of a datapath worker was done. Only `run_datapath_worker` makes one; contracts see what the worker's duty
-/// was.
-#[derive(Drop)]
-pub struct Served {
-    pub(crate) duty: Duty,
-}
-
-impl Model for Served {
-    ghost use Rattle.worker_desk.specs.declared.receipt.Duty.{Duty};
-
-    ghost Value = { Duty };
-
-    ghost view = { λ s. s.duty };
-}
-
-impl Promise<Served> for Duty {
-    ghost use Rattle.std.specs.Prelude.{◌≡◌};
-
-    ghost kept_by = { λ duty served. served ≡ duty };
-}
-
-/// The work of an installer was done. Only `run_installer` makes one; contracts see what the installer's duty was.
-#[derive(Drop)]
-pub struct Equipped {
-    pub(crate) duty: Duty,
-}
-
-impl Model for Equipped {
-    ghost use Rattle.worker_desk.specs.declared.receipt.Duty.{Duty};
-
-    ghost Value = { Duty };
-
-    ghost view = { λ e. e.duty };
-}
-
-impl Promise<Equipped> for Duty {
-    ghost use Rattle.std.specs.Prelude.{◌≡◌};
-
-    ghost kept_by = { λ duty equipped. equipped ≡ duty };
-}
-
-/// An agent worker's number at the gate, and how many flows it knows.
+/// The share of an agent worker: each flow whose number it receives.
 #[derive(Clone, Copy)]
-pub struct Post {
-    pub worker: u32,
-    pub flows: u32,
-}
-
-/// The work of an agent worker was done. Only `run_agent_worker` makes one; contracts see what the worker's post was.
-#[derive(Drop)]
-pub struct Attended {
-    pub(crate) post: Post,
-}
-
-impl Model for Attended {
-    ghost use Rattle.worker_desk.specs.declared.receipt.Post.{Post};
-
-    ghost Value = { Post };
-
-    ghost view = { λ a. a.post };
-}
-
-impl Promise<Attended> for Post {
-    ghost use Rattle.std.specs.Prelude.{◌≡◌};
-
-    ghost kept_by = { λ post attended. attended ≡ post };
-}
+pub struct AgentShare;
 
 /// A campaign worker's number, and its share of the first `cases` cases: the cases `c` with `c mod workers = worker`.
 #[derive(Clone, Copy)]
@@ -87,21 +36,6 @@ pub struct CaseDuty {
     pub cases: u32,
 }
 
-/// The work of a campaign's worker was done, and memory didn't run out. Only `run_cases` makes one; contracts see what
-/// the worker's duty was.
-#[derive(Drop)]
-pub struct CasesRun {
-    pub(crate) duty: CaseDuty,
-}
-
-impl Model for CasesRun {
-    ghost use Rattle.worker_desk.specs.declared.receipt.CaseDuty.{CaseDuty};
-
-    ghost Value = { CaseDuty };
-
-    ghost view = { λ r. r.duty };
-}
-
 /// A case, and the number of the worker that runs it.
 #[derive(Clone, Copy)]
 pub struct WorkerCase {
@@ -109,17 +43,35 @@ pub struct WorkerCase {
     pub case: u32,
 }
 
-/// A case was run to its end between its two points of the gate. Only `run_between_points` makes one; contracts see
-/// which case it was, and which worker ran it.
+/// The work of a duty was done. Only the function that does the work makes one; contracts see the duty.
 #[derive(Drop)]
-pub struct CaseRun {
-    pub(crate) ran: WorkerCase,
+pub struct Receipt<D> {
+    pub(crate) duty: D,
 }
 
-impl Model for CaseRun {
-    ghost use Rattle.worker_desk.specs.declared.receipt.WorkerCase.{WorkerCase};
+impl<D> Model for Receipt<D> {
+    ghost Value = { D };
 
-    ghost Value = { WorkerCase };
-
-    ghost view = { λ r. r.ran };
+    ghost view = { λ r. r.duty };
 }
+
+impl<S> Promise<Receipt<Duty<S>>> for Duty<S> {
+    ghost use Rattle.std.specs.Prelude.{◌≡◌};
+
+    ghost kept_by = { λ duty receipt. receipt ≡ duty };
+}
+
+/// The work of a datapath worker was done, by `run_datapath_worker`.
+pub type Served = Receipt<Duty<DatapathShare>>;
+
+/// The work of an installer was done, by `run_installer`.
+pub type Equipped = Receipt<Duty<InstallerShare>>;
+
+/// The work of an agent worker was done, by `run_agent_worker`.
+pub type Attended = Receipt<Duty<AgentShare>>;
+
+/// The work of a campaign's worker was done by `run_cases`, and memory didn't run out.
+pub type CasesRun = Receipt<CaseDuty>;
+
+/// A case was run to its end between its two points of the gate, by `run_between_points`.
+pub type CaseRun = Receipt<WorkerCase>;

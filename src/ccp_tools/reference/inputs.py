@@ -8,7 +8,7 @@ import struct
 from random import Random
 from typing import Any, Callable, Dict, List, Sequence, Set, Union
 
-from ..tables import LIMITS, PRIMITIVE_WORDS, PRIMITIVES
+from ..tables import AGENTS, LIMITS, PRIMITIVE_WORDS, PRIMITIVES
 from . import wire
 from .driven import DrivenFlow, Runs
 from .language import MOST, Meaning
@@ -336,7 +336,7 @@ def case(draw: Random, name: str, programs: Sequence[str], most_acks: int, trait
     """A case of a scenario with the trace `t0` or `t1`."""
     made: Dict[str, Any] = {
         "name": name,
-        "agent": draw.choice(["reno", "cubic"]),
+        "agent": draw.choice(list(AGENTS)),
         "trace": draw.choice(["t0", "t1"]),
         "mss": draw.choice([1, 536, 1448, 1448, 8948, 65535]),
         "queue": draw.choice([1, 2, 5, 20, 100, 4096]),

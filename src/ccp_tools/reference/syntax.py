@@ -7,22 +7,9 @@ from __future__ import annotations
 import re
 from typing import List, Optional, Sequence, Tuple
 
-from ..tables import PRIMITIVE_WORDS
+from ..tables import MARKS, PRIMITIVE_WORDS
 
 # the word of each operator by what a program may write for it: its mark, or the word itself
-MARKS = {
-    "add": "+",
-    "sub": "-",
-    "mul": "*",
-    "div": "/",
-    "max": "max",
-    "min": "min",
-    "gt": ">",
-    "lt": "<",
-    "eq": "==",
-    "and": "&&",
-    "or": "||",
-}
 OPERATORS = {text: word for word, mark in MARKS.items() for text in (mark, word)}
 CONSTANTS = {"true": 1, "false": 0, "+infinity": 2**64 - 1}
 WRITTEN = ["Cwnd", "Rate", "Micros"]

@@ -18,6 +18,7 @@ returns g c =
     let same : answer_bytes c.acknowledge.new.answer ≡ answer_to g.A.Answerer.answer_of c.args.answerer.now (message.Ack frame.flow frame.ack) frame.version =
     answer-part c.acknowledge.ensures.answered in
     record {
+      none = c.clear.ensures;
       state = always c.write_answer-done.result (state-part c.acknowledge.ensures.answered);
       one = always c.write_answer-done.result c.acknowledge.ensures.room;
       written = subst (λ (bytes : List ℕ). OnOk c.write_answer-done.result (Appends (g.D.Duplex.written c.args.duplex.now) (g.D.Duplex.written c.write_answer-done.new.duplex) bytes)) same c.write_answer-done.ensures.written;

@@ -12,6 +12,7 @@ loop-used-init g c = record {
   reads = omega arith;
   writes = omega arith;
   kept = λ finished. finished;
+  none = refl;
   feeding = feeding-first _ (g.D.Duplex.remaining c.args.duplex.now) (g.D.Duplex.written c.args.duplex.now) (g.D.Duplex.is_finished c.args.duplex.now) c.requires.room c.requires.within;
 }
 
@@ -21,6 +22,7 @@ loop-used-preserved-in-Answered g c = record {
   reads = omega (arith, c.loop-used.invariant.reads, c.next_frame.ensures.read_faults);
   writes = omega (arith, c.loop-used.invariant.writes, c.next_frame.ensures.counted);
   kept = λ finished. c.in-Answered.ensures.kept (c.loop-used.invariant.kept finished);
+  none = c.next_frame.ensures.none;
   feeding = feeds-frame (feeds-bytes c.loop-used.invariant.feeding c.as_slice.ensures.bytes) c.next_frame.ensures.remaining c.in-Answered.ensures.turn c.in-Answered.ensures.kept
       (c.drop_front.ensures ∙ ap (drop c.in-Answered.used) (sym c.as_slice.ensures.bytes));
 }
@@ -42,6 +44,7 @@ loop-used-preserved g c =
       reads = omega (arith, c.loop-used.invariant.reads, c.next_frame.ensures.read_faults, c.read.ensures.counted);
       writes = omega (arith, c.loop-used.invariant.writes, c.next_frame.ensures.counted, c.read.ensures.write_faults);
       kept = λ finished. c.read.ensures.finished (c.in-Part.ensures.kept (c.loop-used.invariant.kept finished));
+      none = c.next_frame.ensures.none;
       feeding = feeds-piece part c.in-Bytes.ensures.came (omega (arith, c.len-left.ensures, part.within)) c.read.ensures.written c.read.ensures.finished;
     }
 

@@ -1,4 +1,4 @@
-use Rattle.std.proofs.Common.{◌+◌, ◌-◌, ◌≤◌, length}
+use Rattle.std.proofs.Common.{◌≡◌, ◌+◌, ◌-◌, ◌≤◌, None, length}
 use Rattle.feed_core.specs.FeedTurns.{IsFeeding}
 use Rattle.feed_core.proofs.calls.answer_from.Given as goal
 
@@ -8,6 +8,7 @@ invariant-loop-used g l = record {
   reads : g.D.Duplex.read_faults l.initial.duplex ≤ g.D.Duplex.read_faults l.duplex;
   writes : g.D.Duplex.write_faults l.initial.duplex ≤ g.D.Duplex.write_faults l.duplex;
   kept : g.D.Duplex.is_finished l.initial.duplex → g.D.Duplex.is_finished l.duplex;
+  none : l.answer ≡ None;
   feeding : IsFeeding
       (record { answer = g.A.Answerer.answer_of; room = g.A.Answerer.room; limit = l.limit; place = l.eaten; state = l.initial.answerer; before = l.initial.rest })
       (g.D.Duplex.remaining l.initial.duplex) (g.D.Duplex.remaining l.duplex)

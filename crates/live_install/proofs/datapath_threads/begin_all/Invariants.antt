@@ -1,6 +1,7 @@
 use Rattle.std.proofs.Common.{◌≡◌, map, length}
-use Rattle.flow_table.specs.Duties.{duty_of, duties}
+use Rattle.worker_desk.specs.Works.{duty_of, duties}
+use Rattle.flow_table.specs.Duties.{duty}
 use Rattle.live_install.proofs.datapath_threads.begin_all.Given as goal
 
 abbrev pub invariant-loop-worker : goal.invariant-loop-worker
-invariant-loop-worker g l = map duty_of l.servings.items ≡ duties l.datapaths.count (length l.table) l.worker
+invariant-loop-worker g l = map duty_of l.works.items ≡ duties (duty l.datapaths.count (length l.table)) l.worker

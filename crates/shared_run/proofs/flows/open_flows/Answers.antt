@@ -11,7 +11,7 @@ begin-requires g c =
     let flow = c.in_ok-flow.flow in
     let rest = into_iter_items c.next.new.self in
     let is : into_iter_items l.case-iterator ≡ c.in-Some.case ∷ rest = c.in-Some.ensures.steps.0 in
-    kept-opened g.F.RoundFlow.at g.C.Course.link g.C.Course.cases l.number c.in-Some.case rest flow.flow flow.tally (sym is ∙ l.invariant.0) c.in_ok-flow.ensures
+    kept-opened g.F.GivenFlow.at g.C.Course.link g.C.Course.cases l.number c.in-Some.case rest flow.flow flow.tally (sym is ∙ l.invariant.0) c.in_ok-flow.ensures
 
 pub loop-case-preserved : goal.loop-case-preserved
 loop-case-preserved g c =

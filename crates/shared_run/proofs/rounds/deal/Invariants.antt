@@ -1,5 +1,5 @@
 use Rattle.std.proofs.Common.{◌≡◌, ◌+◌, take, drop, length}
-use Rattle.std.specs.Vec.Iter.{into_iter_items, into_iter_len}
+use Rattle.std.specs.Vec.Iter.{drain_items}
 use Rattle.shared_run.specs.Courses.{acks_in_round}
 use Rattle.shared_run.specs.Orders.{AreDealt}
 use Rattle.shared_run.specs.KnownFlows.{AreKnownFrom}
@@ -8,9 +8,8 @@ use Rattle.shared_run.proofs.rounds.deal.Given as goal
 
 abbrev pub invariant-loop-list : goal.invariant-loop-list
 invariant-loop-list g l =
-    (into_iter_items l.list-iterator ≡ drop l.number (acks_in_round g.C.Course.link g.C.Course.cases l.round))
-    × (l.number + length (into_iter_items l.list-iterator) ≡ length (acks_in_round g.C.Course.link g.C.Course.cases l.round))
-    × (into_iter_len l.list-iterator ≡ length (into_iter_items l.list-iterator))
+    (drain_items l.list-iterator ≡ drop l.number (acks_in_round g.C.Course.link g.C.Course.cases l.round))
+    × (l.number + length (drain_items l.list-iterator) ≡ length (acks_in_round g.C.Course.link g.C.Course.cases l.round))
     × AreDealt l.workers l.round (take l.number (acks_in_round g.C.Course.link g.C.Course.cases l.round)) l.orders
     × (l.desk.link ≡ l.fn.desk.link)
     × (length l.desk.known ≡ length l.fn.desk.known)

@@ -1,4 +1,4 @@
-use Rattle.std.proofs.Common.{rules, ◌≡◌, ◌+◌, ◌<◌, ℕ, List, length, arith, sym, ap, ◌∙◌, subst}
+use Rattle.std.proofs.Common.{rules, ◌≡◌, ◌+◌, ◌<◌, ℕ, List, [], length, arith, sym, ap, ◌∙◌, subst}
 use Rattle.ccp_base.specs.declared.ack.Ack.{Ack}
 use Rattle.shared_link.specs.declared.round.Ask.{Ask}
 use Rattle.shared_link.specs.declared.shared_case.SharedCase.{SharedCase}
@@ -12,8 +12,8 @@ use Rattle.shared_run.proofs.KnownLemmas.{all-known}
 use Rattle.shared_run.proofs.CourseLemmas.{on-ok, asks-count, acks-count, stands-next}
 use Rattle.shared_run.proofs.rounds.run_round.Goals as goal
 
-pub round-requires-clause-asks : goal.round-requires-clause-asks
-round-requires-clause-asks g c =
+pub round_into-requires-clause-asks : goal.round_into-requires-clause-asks
+round_into-requires-clause-asks g c =
     let link = g.C.Course.link in
     let cases = g.C.Course.cases in
     ap (λ (asks : List Ask). length asks) (c.as_slice.ensures.value ∙ c.requires.asks) ∙ asks-count link cases c.args.done ∙ sym c.requires.links
@@ -24,16 +24,20 @@ deal-requires-clause-lists g c =
     let link = g.C.Course.link in
     let cases = g.C.Course.cases in
     let history = (run_after link over_codes cases c.args.done).history in
-    c.in_ok-lists.ensures.acks history c.requires.stands.stands
+    c.in_ok-round_into.ensures.acks history c.requires.stands.stands
     ∙ (λ i. acks_after (c.requires.stands.case i) history ((c.as_slice.ensures.value ∙ c.requires.asks) i))
+
+pub deal-requires-clause-none : goal.deal-requires-clause-none
+deal-requires-clause-none g c =
+    subst (λ (n : ℕ). AreDealt n c.args.done [] c.begin_orders.new.orders) c.requires.orders c.begin_orders.ensures
 
 pub deal-requires-clause-few : goal.deal-requires-clause-few
 deal-requires-clause-few g c =
     let link = g.C.Course.link in
     let cases = g.C.Course.cases in
     let history = (run_after link over_codes cases c.args.done).history in
-    let lists : c.in_ok-lists.lists ≡ acks_in_round link cases c.args.done =
-    c.in_ok-lists.ensures.acks history c.requires.stands.stands
+    let lists : c.round_into.new.answers.items ≡ acks_in_round link cases c.args.done =
+    c.in_ok-round_into.ensures.acks history c.requires.stands.stands
     ∙ (λ i. acks_after (c.requires.stands.case i) history ((c.as_slice.ensures.value ∙ c.requires.asks) i)) in
     let many = ap (λ (xs : List (List Ack)). length xs) lists in
     omega (arith, many, acks-count link cases c.args.done, c.requires.links, c.requires.few)
@@ -43,8 +47,8 @@ deal-requires-clause-places g c =
     let link = g.C.Course.link in
     let cases = g.C.Course.cases in
     let history = (run_after link over_codes cases c.args.done).history in
-    let lists : c.in_ok-lists.lists ≡ acks_in_round link cases c.args.done =
-    c.in_ok-lists.ensures.acks history c.requires.stands.stands
+    let lists : c.round_into.new.answers.items ≡ acks_in_round link cases c.args.done =
+    c.in_ok-round_into.ensures.acks history c.requires.stands.stands
     ∙ (λ i. acks_after (c.requires.stands.case i) history ((c.as_slice.ensures.value ∙ c.requires.asks) i)) in
     let many = ap (λ (xs : List (List Ack)). length xs) lists in
     omega (arith, many, acks-count link cases c.args.done, c.requires.links, c.requires.count)
@@ -54,8 +58,8 @@ do_orders-requires-clause-dealt g c =
     let link = g.C.Course.link in
     let cases = g.C.Course.cases in
     let history = (run_after link over_codes cases c.args.done).history in
-    let lists : c.in_ok-lists.lists ≡ acks_in_round link cases c.args.done =
-    c.in_ok-lists.ensures.acks history c.requires.stands.stands
+    let lists : c.round_into.new.answers.items ≡ acks_in_round link cases c.args.done =
+    c.in_ok-round_into.ensures.acks history c.requires.stands.stands
     ∙ (λ i. acks_after (c.requires.stands.case i) history ((c.as_slice.ensures.value ∙ c.requires.asks) i)) in
     let workers : length c.args.handles.now ≡ length c.deal.new.orders = search rules in
     subst (λ (n : ℕ). AreDealt n c.args.done (acks_in_round link cases c.args.done) c.deal.new.orders) workers
@@ -72,8 +76,8 @@ collect_asks-requires-clause-known g c =
     let cases = g.C.Course.cases in
     let history = (run_after link over_codes cases c.args.done).history in
     let all = acks_in_round link cases c.args.done in
-    let lists : c.in_ok-lists.lists ≡ all =
-    c.in_ok-lists.ensures.acks history c.requires.stands.stands
+    let lists : c.round_into.new.answers.items ≡ all =
+    c.in_ok-round_into.ensures.acks history c.requires.stands.stands
     ∙ (λ i. acks_after (c.requires.stands.case i) history ((c.as_slice.ensures.value ∙ c.requires.asks) i)) in
     let workers = length c.deal.new.orders in
     let some : 0 < workers = search rules in
@@ -93,11 +97,11 @@ collect_asks-requires-clause-flows g c =
 
 pub returns-clause-stands : goal.returns-clause-stands
 returns-clause-stands g c =
-    let same : c.do_orders.new.desk.link ≡ c.round.new.self = c.in_ok-do_orders.ensures.link ∙ c.in_ok-deal.ensures.link in
+    let same : c.do_orders.new.desk.link ≡ c.round_into.new.self = c.in_ok-do_orders.ensures.link ∙ c.in_ok-deal.ensures.link in
     on-ok c.collect_asks.result
     (subst (λ (state : SharedState). StandsAfter g.C.Course.link g.C.Course.cases (c.args.done + 1) state) (sym same)
-    (stands-next g.C.Course.link g.C.Course.cases c.args.done c.args.desk.now.link c.round.new.self c.as_slice.result.now c.requires.stands c.in_ok-lists.ensures.case
-    c.in_ok-lists.ensures.rounds c.in_ok-lists.ensures.stands (c.as_slice.ensures.value ∙ c.requires.asks)))
+    (stands-next g.C.Course.link g.C.Course.cases c.args.done c.args.desk.now.link c.round_into.new.self c.as_slice.result.now c.requires.stands c.in_ok-round_into.ensures.case
+    c.in_ok-round_into.ensures.rounds c.in_ok-round_into.ensures.stands (c.as_slice.ensures.value ∙ c.requires.asks)))
 
 pub returns-clause-count : goal.returns-clause-count
 returns-clause-count g c =
@@ -109,8 +113,8 @@ returns-clause-known g c =
     let cases = g.C.Course.cases in
     let history = (run_after link over_codes cases c.args.done).history in
     let all = acks_in_round link cases c.args.done in
-    let lists : c.in_ok-lists.lists ≡ all =
-    c.in_ok-lists.ensures.acks history c.requires.stands.stands
+    let lists : c.round_into.new.answers.items ≡ all =
+    c.in_ok-round_into.ensures.acks history c.requires.stands.stands
     ∙ (λ i. acks_after (c.requires.stands.case i) history ((c.as_slice.ensures.value ∙ c.requires.asks) i)) in
     let workers = length c.deal.new.orders in
     let some : 0 < workers = search rules in

@@ -35,7 +35,7 @@ returns-clause-flows g c =
     c.most_of-most.ensures ∙ ap (λ (list : List Case). round_limit list c.args.most) (c.as_slice.ensures ∙ c.requires.cases) in
     let ended : HasEnded link cases (round_limit cases c.args.most) end.rounds end.link =
     subst (λ (n : ℕ). HasEnded link cases n end.rounds end.link) most c.in_ok-end.ensures.end in
-    c.in_ok-flows.ensures ∙ ap (λ (cores : List CoreState). map (kept_at g.F.RoundFlow.at) cores) (flows-are link cases c.args.most end.rounds end.link ended)
+    c.in_ok-flows.ensures ∙ ap (λ (cores : List CoreState). map (kept_at g.F.GivenFlow.at) cores) (flows-are link cases c.args.most end.rounds end.link ended)
 
 pub returns-clause-counts : goal.returns-clause-counts
 returns-clause-counts g c =

@@ -1,7 +1,7 @@
 use Rattle.std.proofs.Common.{List, map, ap, ◌∙◌}
 use Rattle.flow_core.specs.Readings.{over_codes}
-use Rattle.shared_run.specs.declared.flow.SharedFlow.{SharedFlow}
-use Rattle.shared_run.specs.declared.round_flow.BareFlow.{BareFlow}
+use Rattle.campaign_core.specs.declared.tallied_flow.TalliedFlow.{TalliedFlow}
+use Rattle.campaign_core.specs.declared.given_flow.BareFlow.{BareFlow}
 use Rattle.shared_run.specs.SharedHistory.{flows_at_end}
 use Rattle.shared_run.proofs.CourseLemmas.{ends}
 use Rattle.shared_run.proofs.LiftedRunLemmas.{lifted}
@@ -13,7 +13,7 @@ returns-clause-rows g c =
     let scene = c.args.scene in
     let cores = flows_at_end scene.link over_codes scene.scene.cases scene.rounds in
     c.in_ok-rows.ensures cores (run-whole scene.link scene.scene.cases scene.rounds)
-    (ap (λ (items : List (SharedFlow BareFlow)). map (λ (shared : SharedFlow BareFlow). (shared.flow, shared.tally)) items) c.as_slice.ensures.value ∙ c.in_ok-run.ensures.flows)
+    (ap (λ (items : List (TalliedFlow BareFlow)). map (λ (shared : TalliedFlow BareFlow). (shared.flow, shared.tally)) items) c.as_slice.ensures.value ∙ c.in_ok-run.ensures.flows)
 
 pub returns-clause-ends : goal.returns-clause-ends
 returns-clause-ends g c = ends c.args.scene.link c.args.scene.scene.cases c.args.scene.rounds

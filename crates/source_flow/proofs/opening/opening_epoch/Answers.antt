@@ -1,8 +1,8 @@
 use Rattle.std.proofs.Common.{◌≡◌, length, ap, ◌∙◌}
 use Rattle.ccp_base.specs.FieldReg.{first_bad_pair}
+use Rattle.ccp_base.specs.declared.running_epoch.RunningEpoch.{RunningEpoch}
 use Rattle.portus_core.specs.ProgramForm.{form_of}
 use Rattle.agent_core.specs.Agents.{opening_change, course_of, values_of}
-use Rattle.flow_core.specs.declared.running_epoch.RunningEpoch.{RunningEpoch}
 use Rattle.source_flow.specs.SourceStates.{form_at}
 use Rattle.source_flow.proofs.GoodLemmas.{good-opening}
 use Rattle.source_flow.proofs.opening.opening_epoch.Goals as goal

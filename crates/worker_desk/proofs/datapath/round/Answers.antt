@@ -7,7 +7,7 @@ loop-place-preserved g c = record {
   within = search rules;
   free = search rules;
   flows = λ k below.
-      let here = c.keep-kept.ensures.below (g.D.Desk.flows c.loop-place.desk) c.args.count
+      let here = c.keep-kept.ensures.below (g.D.LockDesk.flows c.loop-place.desk) c.args.count
       (c.loop-place.invariant.flows c.loop-place.place (omega arith)) c.loop-place.invariant.flows k below in
       omega (arith, here, c.acknowledge-answer.ensures.flows);
   same = search rules;

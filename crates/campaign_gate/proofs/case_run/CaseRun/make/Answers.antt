@@ -1,15 +1,38 @@
-use Rattle.std.proofs.Common.{ap, ◌∙◌, max}
-use Rattle.flow_core.specs.Bares.{BareState}
-use Rattle.campaign_gate.proofs.CaseRunLemmas.{onward}
+use Rattle.std.proofs.Common.{refl, subst}
+use Rattle.flow_core.specs.declared.letter.Letter.{Letter}
+use Rattle.flow_core.specs.declared.letter.Letter.TheVariants.{T, C}
+use Rattle.campaign_gate.specs.CaseRuns.{IsNextLetter}
+use Rattle.campaign_gate.proofs.CaseRunLemmas.{may-next, onward-T, onward-C, on-ok}
 use Rattle.campaign_gate.proofs.case_run.CaseRun.make.Goals as goal
 
-pub returns : goal.returns
-returns g c =
-    let flow = g.F.CampaignFlow in
-    let old = c.args.self.now in
-    let new = c.grow.new.self in
-    let raised = c.raise_peak.new.self in
-    onward flow.at flow.bare_of g.met.F.CampaignFlow.bare_law (flow.bare_of old.flow).case old.flow old.tally c.args.letter c.requires
-    new.flow raised.sums raised.peak c.in_ok-grow.ensures.made
-    (λ cell is. c.raise_peak.ensures.sums ∙ c.in_ok-grow.ensures.sums cell is)
-    (c.raise_peak.ensures.peak ∙ (λ i. max (c.grow.ensures.peak i) (ap (λ (b : BareState). b.summary.track.env.cwnd) c.bare.ensures i)))
+pub take-requires : goal.take-requires
+take-requires g c =
+    let flow = g.F.GivenFlow in
+    let run = c.args.self.now in
+    may-next flow.at flow.bare_of g.met.F.GivenFlow.bare_law run.flow.flow run.flow.tally run.link T
+    (subst (λ (letter : Letter). IsNextLetter flow.at run.flow.flow run.flow.tally run.link letter) c.in-T.is c.requires)
+
+pub settle-requires : goal.settle-requires
+settle-requires g c =
+    let flow = g.F.GivenFlow in
+    let run = c.args.self.now in
+    may-next flow.at flow.bare_of g.met.F.GivenFlow.bare_law run.flow.flow run.flow.tally run.link C
+    (subst (λ (letter : Letter). IsNextLetter flow.at run.flow.flow run.flow.tally run.link letter) c.in-C.is c.requires)
+
+pub returns-in-T : goal.returns-in-T
+returns-in-T g c =
+    let flow = g.F.GivenFlow in
+    let run = c.args.self.now in
+    let new = c.take.new.self in
+    on-ok c.take.result
+    (onward-T flow.at flow.bare_of g.met.F.GivenFlow.bare_law run.flow.flow run.flow.tally run.link new.flow new.tally run.link
+    (subst (λ (letter : Letter). IsNextLetter flow.at run.flow.flow run.flow.tally run.link letter) c.in-T.is c.requires) refl)
+    c.take.ensures
+
+pub returns-in-C : goal.returns-in-C
+returns-in-C g c =
+    let flow = g.F.GivenFlow in
+    let run = c.args.self.now in
+    let new = c.settle.new.self in
+    onward-C flow.at flow.bare_of g.met.F.GivenFlow.bare_law run.flow.flow run.flow.tally run.link new.flow new.tally run.link
+    (subst (λ (letter : Letter). IsNextLetter flow.at run.flow.flow run.flow.tally run.link letter) c.in-C.is c.requires) refl c.settle.ensures

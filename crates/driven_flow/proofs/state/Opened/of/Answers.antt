@@ -1,6 +1,6 @@
 use Rattle.std.proofs.Common.{ap, ◌∙◌, subst}
+use Rattle.flow_core.specs.Books.{line_of}
 use Rattle.flow_core.specs.declared.book.EpochLine.{EpochLine}
-use Rattle.flow_core.specs.RunningEpochs.{line_of}
 use Rattle.driven_flow.specs.DrivenJournals.{Begins}
 use Rattle.driven_flow.proofs.state.Opened.of.Goals as goal
 
@@ -13,6 +13,6 @@ returns c = record {
   calls = c.in_ok-link.ensures.calls;
   journal =
       subst (λ (line : EpochLine). Begins line c.in_ok-journal.journal)
-      (c.line-line.ensures ∙ ap (line_of c.in_ok-parts.parts.epoch 0) c.cwnd.ensures)
+      (c.of-line.ensures ∙ ap (line_of c.in_ok-parts.parts.epoch 0) c.cwnd.ensures)
       c.in_ok-journal.ensures;
 }

@@ -1,5 +1,5 @@
 use Rattle.std.proofs.Common.{sym, subst}
-use Rattle.flow_core.specs.RunningEpochs.{line_of}
+use Rattle.flow_core.specs.Books.{line_of}
 use Rattle.driven_flow.specs.Driven.{DrivenState}
 use Rattle.driven_flow.specs.DrivenStates.{IsDriven}
 use Rattle.driven_flow.proofs.StateLemmas.{driven-open, opened-same}

@@ -32,12 +32,11 @@ pub returns : goal.returns
 returns c =
     let feed = c.args.self.now in
     let lt : c.args.n < length feed.flows.items = omega (arith, c.requires.is_feed.flows_full) in
-    let epoch = c.in-Some-code_of.epoch in
     let code = c.in-Some-code_of.code.now.code in
-    let runs : running_code c.in-Some.flow.epoch (codes_in feed.programs.items) ≡ Some (epoch, code) =
+    let runs : running_code c.in-Some.flow.epoch (codes_in feed.programs.items) ≡ Some code =
     ap (λ ps. running_code c.in-Some.flow.epoch (codes_in ps)) (sym c.as_slice.ensures.value) ∙ sym c.code_of.ensures ∙ ap (option_map _) c.in-Some-code_of.is in
     record {
       messages = refl;
       handled = ack-heard feed.flows.items (codes_in feed.programs.items) feed.messages c.args.n c.args.version c.index_mut.result.now lt c.index_mut.ensures.value
-          c.args.ack.now c.in-Some.flow c.ack.new.self epoch code c.ack.new.answer c.in-Some.is runs c.ack.ensures.after c.ack.ensures.message;
+          c.args.ack.now c.in-Some.flow c.ack.new.self code c.ack.new.answer c.in-Some.is runs c.ack.ensures.after c.ack.ensures.message;
     }

@@ -32,26 +32,24 @@ pub returns-in-Ok : goal.returns-in-Ok
 returns-in-Ok c =
     let feed = c.args.self.now in
     let lt : c.args.n < length feed.flows.items = omega (arith, c.requires.is_feed.flows_full) in
-    let epoch = c.in-Some-code_of.field-0-0 in
     let code = c.in-Some-code_of.code.now.code in
-    let runs : running_code c.in-Some.flow.epoch (codes_in feed.programs.items) ≡ Some (epoch, code) =
+    let runs : running_code c.in-Some.flow.epoch (codes_in feed.programs.items) ≡ Some code =
     ap (λ ps. running_code c.in-Some.flow.epoch (codes_in ps)) (sym c.as_slice.ensures.value) ∙ sym c.code_of.ensures ∙ ap (option_map _) c.in-Some-code_of.is in
     record {
       messages = refl;
       handled = update-written feed.flows.items (codes_in feed.programs.items) feed.messages c.args.n c.args.version c.index_mut.result.now lt c.index_mut.ensures.value
-          c.args.values.now c.in-Some.flow c.in-Some.is epoch code c.update.new.self runs (c.update.ensures.ok.0 (search rules)) c.in-Ok.ensures.updated;
+          c.args.values.now c.in-Some.flow c.in-Some.is code c.update.new.self runs (c.update.ensures.ok.0 (search rules)) c.in-Ok.ensures.updated;
     }
 
 pub returns-in-Err : goal.returns-in-Err
 returns-in-Err c =
     let feed = c.args.self.now in
     let lt : c.args.n < length feed.flows.items = omega (arith, c.requires.is_feed.flows_full) in
-    let epoch = c.in-Some-code_of.field-0-0 in
     let code = c.in-Some-code_of.code.now.code in
-    let runs : running_code c.in-Some.flow.epoch (codes_in feed.programs.items) ≡ Some (epoch, code) =
+    let runs : running_code c.in-Some.flow.epoch (codes_in feed.programs.items) ≡ Some code =
     ap (λ ps. running_code c.in-Some.flow.epoch (codes_in ps)) (sym c.as_slice.ensures.value) ∙ sym c.code_of.ensures ∙ ap (option_map _) c.in-Some-code_of.is in
     record {
       messages = refl;
       handled = update-bad feed.flows.items (codes_in feed.programs.items) feed.messages c.args.n c.args.version c.index_mut.result.now lt c.index_mut.ensures.value
-          c.args.values.now c.in-Some.flow c.in-Some.is epoch code c.update.new.self c.in-Err.field-0.0 c.refusal-in-Err.result runs (search rules) c.in-Err.ensures.unchanged c.refusal-in-Err.ensures;
+          c.args.values.now c.in-Some.flow c.in-Some.is code c.update.new.self c.in-Err.field-0.0 c.refusal-in-Err.result runs (search rules) c.in-Err.ensures.unchanged c.refusal-in-Err.ensures;
     }

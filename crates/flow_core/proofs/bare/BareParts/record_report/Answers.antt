@@ -1,6 +1,6 @@
-use Rattle.std.proofs.Common.{◌∙◌}
+use Rattle.std.proofs.Common.{◌∙◌, ◌+◌}
+use Rattle.ccp_base.specs.RunningEpochs.{report_at, reported_epoch}
 use Rattle.flow_core.specs.Bares.{reports_in}
-use Rattle.flow_core.specs.RunningEpochs.{report_at}
 use Rattle.flow_core.proofs.BareLemmas.{noted-report}
 use Rattle.flow_core.proofs.bare.BareParts.record_report.Goals as goal
 
@@ -10,11 +10,11 @@ returns c =
     let put = c.put_report.ensures in
     let report =
     c.report-report.ensures.report
-    ∙ (λ i. report_at s.epoch s.case.flow s.acks c.args.ack.now (c.cwnd-cwnd.ensures i) (c.rate-rate.ensures i) (c.reported-fields.ensures i)) in
+    ∙ (λ i. report_at s.epoch s.case.flow (c.from-end.ensures i + 1) c.args.ack.now.now (c.cwnd-cwnd.ensures i) (c.rate-rate.ensures i) (c.reported-fields.ensures i)) in
     noted-report s c.args.ack.now c.put_report.new.machine c.put_report.new.outbox c.report-report.result c.report-report.new.self
     put.machine
     (put.gained (reports_in s.machine.further s.outbox.slots) c.requires.can.lies)
     put.untold
     report
-    c.report-report.ensures.span
+    (c.report-report.ensures.span ∙ (λ i. reported_epoch (c.from-end.ensures i + 1) s.epoch))
     put.words put.as_many put.size

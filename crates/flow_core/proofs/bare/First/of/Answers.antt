@@ -1,6 +1,6 @@
 use Rattle.std.proofs.Common.{ap, ◌∙◌}
 use Rattle.ccp_base.specs.declared.course.Course.{Course}
-use Rattle.flow_core.specs.RunningEpochs.{opening_epoch}
+use Rattle.ccp_base.specs.RunningEpochs.{opening_epoch}
 use Rattle.flow_core.proofs.bare.First.of.Goals as goal
 
 pub returns : goal.returns

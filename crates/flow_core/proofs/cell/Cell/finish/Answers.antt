@@ -1,10 +1,10 @@
 use Rattle.std.proofs.Common.{◌≡◌, true, ap, sym, ◌∙◌, subst}
+use Rattle.std.proofs.lemmas.Bool.{and_parts}
 use Rattle.flow_core.specs.World.{World}
 use Rattle.flow_core.specs.Words.{is_still, legal, is_complete}
 use Rattle.flow_core.specs.Books.{IsBookOf}
 use Rattle.flow_core.specs.Cores.{flow_in}
 use Rattle.flow_core.specs.Cells.{CellState, flow_at, world_at}
-use Rattle.flow_core.proofs.BothLemmas.{and-right}
 use Rattle.flow_core.proofs.CellLemmas.{cell_of, same, legal-same, lifted}
 use Rattle.flow_core.proofs.cell.Cell.finish.Goals as goal
 
@@ -13,7 +13,7 @@ finish-requires c =
     let core = c.self.inside.core in
     let here : is_complete (flow_in core) (world_at (cell_of core)) ≡ true =
     ap (λ (cell : CellState). is_complete (flow_at cell) (world_at cell)) c.self.view_is ∙ c.requires in
-    ap is_still (same core c.self.inside.link c.self.invariant) ∙ and-right _ (is_still (world_at (cell_of core))) here
+    ap is_still (same core c.self.inside.link c.self.invariant) ∙ (and_parts _ (is_still (world_at (cell_of core))) here).1
 
 pub returns-clause-legal : goal.returns-clause-legal
 returns-clause-legal c =

@@ -14,4 +14,4 @@ returns-clause-track c =
     ∙ ap₂ (λ values (m : MachineState). env_of (started built.code.code values m.kept.cwnd m.kept.rate 0)) c.new-2.ensures c.in_ok-machine.ensures
     ∙ start_shape (form_of built.program) built.code.code built.places built.simulates in
     let going = ap (λ (m : MachineState). m.is_stopped) c.in-Ok.ensures.started in
-    λ i. record { env = env i; is_stopped = going i; first = 0; count = 0 }
+    λ i. record { env = env i; is_stopped = going i; first = (c.opening.ensures i).first; count = 0 }

@@ -1,9 +1,10 @@
 use Rattle.std.proofs.Common.{refl, ap, sym, ◌∙◌, subst, ◌≡◌, Some, None, Option, is_some, arith, List, [], ◌∷◌, ◌++◌}
 use Rattle.std.proofs.lemmas.Bool.{true≢false}
 use Rattle.ccp_base.specs.FieldReg.{Pair}
+use Rattle.ccp_base.specs.declared.running_epoch.RunningEpoch.{RunningEpoch}
+use Rattle.ccp_base.specs.RunningEpochs.{epoch_after}
 use Rattle.reg_compiler.specs.declared.built.Built.{Built}
 use Rattle.fold_machine.specs.Heard.{started_by}
-use Rattle.flow_core.specs.declared.running_epoch.RunningEpoch.{RunningEpoch}
 use Rattle.live_install.specs.declared.entry.Entry.{Entry}
 use Rattle.live_install.specs.Entries.{built_at}
 use Rattle.live_install.specs.States.{IsOpen}
@@ -40,7 +41,7 @@ returns-clause-open_state c =
     let s = c.args.self.now in
     let machine = c.start.new.self in
     let built = c.in-Some.built.now in
-    let is_epoch = c.epoch_after-epoch.ensures in
+    let is_epoch = c.after-epoch.ensures ∙ (λ i. epoch_after s.running c.args.step (c.from.ensures i)) in
     subst (λ (epoch : RunningEpoch). IsOpen (record (started_state s c.args.step machine c.push.new.self c.push-2.new.self) { running = Some epoch }))
     (sym is_epoch)
     (open-started s c.requires.open_state c.args.step c.requires.next built machine c.push.new.self c.push-2.new.self
@@ -48,7 +49,7 @@ returns-clause-open_state c =
     (c.in-Ok.ensures.started ∙ ap (λ (values : List Pair). started_by built.code.code values s.time s.machine) c.new.ensures)
     c.in-Ok.ensures.fits
     (c.push.ensures.items
-    ∙ (λ i. s.epochs.items ++ c.line.ensures i ∷ [])
+    ∙ (λ i. s.epochs.items ++ c.of-line.ensures i ∷ [])
     ∙ (λ i. s.epochs.items ++ record { program = (is_epoch i).program; at = s.acks; cwnd = c.cwnd.ensures i } ∷ [])
     ∙ (λ i. s.epochs.items ++ record { program = after-program s.running c.args.step s.acks i; at = s.acks; cwnd = machine.kept.cwnd } ∷ []))
     c.push.ensures.room c.push-2.ensures.items c.push-2.ensures.room)

@@ -4,9 +4,9 @@ use Rattle.shared_run.specs.RoundFlows.{run_flow_in, MayHear}
 use Rattle.shared_run.proofs.KeptLemmas.{may-hear, kept-next}
 use Rattle.shared_run.proofs.run_flow.RunFlow.hear.Goals as goal
 
-pub part-requires : goal.part-requires
-part-requires g c =
-    let at = g.F.RoundFlow.at in
+pub run_part-requires : goal.run_part-requires
+run_part-requires g c =
+    let at = g.F.GivenFlow.at in
     let run = c.args.self.now in
     let acks = c.args.acks.now in
     let link = g.C.Course.link in
@@ -18,9 +18,9 @@ part-requires g c =
 
 pub invariant_of-self : goal.invariant_of-self
 invariant_of-self g c =
-    let at = g.F.RoundFlow.at in
+    let at = g.F.GivenFlow.at in
     let run = c.args.self.now in
-    let new = c.part.new.self in
+    let new = c.run_part.new.flow in
     let acks = c.args.acks.now in
     let link = g.C.Course.link in
     let cases = g.C.Course.cases in

@@ -1,9 +1,0 @@
-use Rattle.std.proofs.Common.{◌≡◌, ◌++◌, map, vec_len}
-use Rattle.flow_table.specs.Duties.{duty_of}
-use Rattle.flow_table.proofs.serving.end_serving.Given as goal
-
-abbrev pub invariant-loop-left : goal.invariant-loop-left
-invariant-loop-left g l = l.all.items ++ map duty_of l.left.items ≡ map duty_of l.initial.left.items
-
-abbrev pub decreases-loop-left : goal.decreases-loop-left
-decreases-loop-left g l = vec_len l.left

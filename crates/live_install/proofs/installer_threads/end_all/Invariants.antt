@@ -1,9 +1,0 @@
-use Rattle.std.proofs.Common.{◌≡◌, ◌++◌, map, vec_len}
-use Rattle.live_install.specs.Crews.{install_duty_of}
-use Rattle.live_install.proofs.installer_threads.end_all.Given as goal
-
-abbrev pub invariant-loop-left : goal.invariant-loop-left
-invariant-loop-left g l = l.all.items ++ map install_duty_of l.left.items ≡ map install_duty_of l.initial.left.items
-
-abbrev pub decreases-loop-left : goal.decreases-loop-left
-decreases-loop-left g l = vec_len l.left

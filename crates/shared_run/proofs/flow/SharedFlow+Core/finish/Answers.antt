@@ -1,5 +1,0 @@
-use Rattle.shared_run.proofs.LiftedFlowLemmas.{lifted}
-use Rattle.shared_run.proofs.flow.SharedFlow+Core.finish.Goals as goal
-
-pub returns-clause-lifted : goal.returns-clause-lifted
-returns-clause-lifted c = lifted c.args.self.flow.case
