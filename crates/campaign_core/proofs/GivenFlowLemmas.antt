@@ -15,7 +15,9 @@ use Rattle.flow_core.specs.States.{issued_as}
 use Rattle.flow_core.specs.Cores.{CoreState, with_ack}
 use Rattle.flow_core.specs.Summaries.{summary, step_ack, step_take, step_answer, may_make}
 use Rattle.flow_core.specs.Bares.{BareState}
+use Rattle.flow_core.specs.BookFlows.{BookFlowState, book_flow_of, book_heard, book_taken, book_answered}
 use Rattle.flow_core.specs.ReadsRates.{case_reads_rates}
+use Rattle.flow_core.proofs.BookFlowLemmas.{book-A, book-T, book-C}
 use Rattle.flow_core.proofs.MappedLemmas.{count-mapped}
 use Rattle.flow_core.proofs.SummaryLemmas.{summary-ack, summary-take, summary-answer, summary-legal}
 use Rattle.flow_core.proofs.WordLemmas.{acks-of-world_over, world_over-A}
@@ -207,6 +209,23 @@ module _ (old : BareFlow) (new : BareState) where
       (λ i. record old { bare = stepped i })
       ∙ ap (λ (f : BareFlow). record f { bare = record f.bare { summary = step_answer (over_codes f.bare.case) f.bare.summary } }) is
       ∙ (λ i. record { bare = sym (bare-C core) i; reads_rates = case_reads_rates core.case })
+
+-- ---- a flow with what its book has
+
+pub book-may : (letter : Letter) (flow : BookFlowState) → MayMake book_flow_of letter flow → may_make (over_codes flow.bare.case) flow.bare.summary letter ≡ true
+book-may letter flow may =
+    ap (λ (f : BookFlowState). may_make (over_codes f.bare.case) f.bare.summary letter) may.after
+    ∙ sym (summary-legal (over_codes may.core.case) letter (world_of_core over_codes may.core)) ∙ may.legal
+
+module _ (old new : BookFlowState) where
+  pub book-makes-A : (ack : Ack) → new ≡ book_heard ack old → Makes book_flow_of (λ (core : CoreState). with_ack core ack) old new
+  book-makes-A ack heard core whole is = heard ∙ ap (book_heard ack) is ∙ book-A core whole.all ack
+
+  pub book-makes-T : new ≡ book_taken old → Makes book_flow_of (with_letter T) old new
+  book-makes-T taken core whole is = taken ∙ ap book_taken is ∙ book-T core
+
+  pub book-makes-C : new ≡ book_answered old → Makes book_flow_of (with_letter C) old new
+  book-makes-C answered core whole is = answered ∙ ap book_answered is ∙ book-C core
 
 -- ---- a flow with its history
 

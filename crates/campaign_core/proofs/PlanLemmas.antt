@@ -1,6 +1,7 @@
 -- The campaign word of a flow is legal, and it is complete.
 use Rattle.std.specs.Prelude.{◌≡◌, ℕ, zero, suc, ◌-◌, ◌<◌, ◌≤◌, Bool, true, false, not, is_some, is_none, ◌&&◌, if◌then◌else◌, Option, Some, None, option_map, [], ◌∷◌, length, refl}
 use Rattle.std.proofs.Common.{arith, ap, ◌∙◌, subst}
+use Rattle.std.proofs.lemmas.Option.{none-some}
 use Rattle.link_model.specs.declared.link_case.LinkCase.{LinkCase}
 use Rattle.flow_core.specs.declared.case.Case.{Case}
 use Rattle.flow_core.specs.declared.letter.Letter.{Letter}
@@ -49,9 +50,6 @@ pub takes-not-still : (none can : Bool) → (none && can) ≡ true → (none && 
 takes-not-still true true takes is = let wrong : false ≡ true = is in (cc)
 takes-not-still true false takes is = let wrong : false ≡ true = takes in (cc)
 takes-not-still false can takes is = let wrong : false ≡ true = takes in (cc)
-
-none-some : (number : ℕ) → None ≡ Some number → ⊥
-none-some number is = cc
 
 -- and no ticket is out
 pub takes-not-out : {X Y : Type 0} (f : X → Y) (g : Y → ℕ) (out : Option X) (can : Bool) (number : ℕ) → (is_none out && can) ≡ true

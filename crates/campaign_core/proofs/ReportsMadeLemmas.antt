@@ -2,6 +2,7 @@
 -- flow's epochs made.
 use Rattle.std.specs.Prelude.{◌≡◌, ℕ, ◌+◌, Bool, true, false, not, ◌&&◌, is_some, is_none, Option, Some, None, List, [], ◌∷◌, ◌++◌, length, map, refl}
 use Rattle.std.proofs.Common.{arith, ap, sym, ◌∙◌, append_assoc, append-nil}
+use Rattle.std.proofs.lemmas.Bool.{and_parts}
 use Rattle.ccp_base.specs.declared.ack.Ack.{Ack}
 use Rattle.ccp_base.specs.declared.exchange.Report.{Report}
 use Rattle.ccp_base.specs.declared.exchange.Reply.{Reply}
@@ -52,14 +53,6 @@ tickets-append (first ∷ rest) ticket =
 
 regroup : (a b c d : List Report) → a ++ (b ++ (c ++ d)) ≡ (a ++ (b ++ c)) ++ d
 regroup a b c d = ap (λ (xs : List Report). a ++ xs) (sym (append_assoc b c d)) ∙ sym (append_assoc a (b ++ c) d)
-
-and-left : (a b : Bool) → (a && b) ≡ true → a ≡ true
-and-left true b both = refl
-and-left false b both = both
-
-and-right : (a b : Bool) → (a && b) ≡ true → b ≡ true
-and-right true b both = both
-and-right false b both = absurd (let wrong : false ≡ true = both in (cc))
 
 -- the report of the ticket that is out
 abbrev pub reports_out : {X : Type 0} → Option (Taken X) → List Report
@@ -169,8 +162,7 @@ module _ {X : Type 0} (flow : Flow X) where
   word-made giving [] w legal kept = kept
   word-made giving (letter ∷ rest) w legal kept =
       let next = after_letter flow giving w letter in
-      let here = and-left (is_legal flow w letter) (legal_from flow giving next rest) legal in
-      let later = and-right (is_legal flow w letter) (legal_from flow giving next rest) legal in
+      let (here, later) = and_parts (is_legal flow w letter) (legal_from flow giving next rest) legal in
       word-made giving rest next later (letter-made giving letter w here kept)
 
   -- a complete word leaves none

@@ -2,17 +2,19 @@
 ghost use Rattle.std.specs.Prelude.{◌≡◌, Bool, true, refl, IfOk, OnOk};
 ghost use Rattle.link_model.specs.Rated.{rated};
 ghost use Rattle.flow_core.specs.Cores.{CoreState, with_ack};
+ghost use Rattle.flow_core.specs.ReadsRates.{case_reads_rates};
 ghost use Rattle.flow_core.specs.Bares.{BareState};
+ghost use Rattle.flow_core.specs.BookFlows.{book_flow_of};
 ghost use Rattle.campaign_core.specs.FlowRow.{opened, with_letter};
 ghost use Rattle.campaign_core.specs.GivenFlows.{bare_after, bare_flow_at, MayMake, Makes};
 
 use agent_core::calls::answer;
 use ccp_base::{Ack, NoMemory};
-use flow_core::{Bare, Case, Core, Letter, TakeFault};
+use flow_core::{Bare, BookFlow, Case, Core, Letter, TakeFault};
 use std::alloc::Global;
 
 /// A flow that is given its acknowledgements. Its type says what it keeps of them and of its word: the whole history,
-/// or only what later letters depend on.
+/// what a book has of it, or only what later letters depend on.
 pub trait GivenFlow: Drop {
     /// The flow after a history.
     ghost at: { CoreState → Self };
@@ -55,7 +57,7 @@ pub trait GivenFlow: Drop {
     ghost bare_law: { (core : CoreState) → bare_of (at core) ≡ bare_after core };
 }
 
-/// A flow with its history, from which a book is made.
+/// A flow with its history, from which a book with its acknowledgements is made.
 impl GivenFlow for Core {
     ghost at = { λ core. core };
 
@@ -101,6 +103,48 @@ impl GivenFlow for Core {
         let Ok(()) = Core::settle(self, answer(ticket)) else {
             unreachable!()
         };
+    }
+}
+
+/// A flow with what its book has of its history. It takes no memory after its opening but for its tickets.
+impl GivenFlow for BookFlow {
+    ghost at = { book_flow_of };
+
+    ghost bare_of = { λ flow. flow.bare };
+
+    ghost gets = { λ flow. case_reads_rates flow.bare.case };
+
+    ghost bare_law = { λ core. refl };
+
+    fn open(alloc: Global, case: Case) -> Result<BookFlow, NoMemory> {
+        BookFlow::new(alloc, case)
+    }
+
+    fn bare(&self) -> &Bare {
+        BookFlow::bare(self)
+    }
+
+    fn gets_rates(&self) -> bool {
+        self.reads_rates()
+    }
+
+    #[inline(always)]
+    fn hear(&mut self, ack: &Ack) {
+        BookFlow::hear(self, ack);
+    }
+
+    fn take(&mut self, alloc: Global) -> Result<(), NoMemory> {
+        match BookFlow::take(self, alloc) {
+            Ok(_) => Ok(()),
+            Err(error) => Err(error),
+        }
+    }
+
+    fn settle(&mut self) {
+        let Some(ticket) = BookFlow::bare(self).out() else {
+            unreachable!()
+        };
+        BookFlow::settle(self, &answer(ticket));
     }
 }
 

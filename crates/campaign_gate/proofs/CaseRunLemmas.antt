@@ -281,10 +281,6 @@ module _ {F : Type 0} (at : CoreState → F) (bare_of : F → BareState) (law : 
           (subst (λ (c : CoreState). IsAfterHistory at c new now) (given-A here) (goes (ack_at here) ack-is (given_at here) n.on.after))
           (λ i. record { case = case i; standing = standing i })
 
-pub on-ok : {R E P Q : Type 0} (result : Result R E) → (P → Q) → OnOk result P → OnOk result Q
-on-ok (Ok value) follows holds = follows holds
-on-ok (Err fault) follows holds = holds
-
 -- ---- the row
 
 -- the row of a flow that was given its link's acknowledgements is that over the link

@@ -1,18 +1,15 @@
 -- What the workers' shares have, side by side.
 use Rattle.std.specs.Prelude.{◌≡◌, ℕ, zero, suc, ◌+◌, ◌-◌, ◌<◌, ◌≤◌, Option, Some, None, unwrap_or, List, [], ◌∷◌, ◌++◌, drop, length, slice_get, refl}
 use Rattle.std.proofs.Common.{arith, ap, sym, ◌∙◌, append_assoc, append-nil, length-append}
-use Rattle.std.proofs.lemmas.List.{drop-drop}
-use Rattle.std.proofs.lemmas.Option.{slice_get_within}
+use Rattle.std.proofs.lemmas.List.{drop-drop, drop_more}
+use Rattle.std.proofs.lemmas.Option.{slice_get_within, get_or_from_slice_get}
 use Rattle.worker_desk.specs.EveryNth.{every}
 use Rattle.campaign_gate.specs.Shares.{shares_from, shares, front_of, turned}
 
 -- the item at a place, and those after it
 pub drop-next : {X : Type 0} (xs : List X) (n : ℕ) (x : X) → slice_get xs n ≡ Some x → drop n xs ≡ x ∷ drop (n + 1) xs
-drop-next [] n x at = absurd (let wrong : None ≡ Some x = at in (cc))
-drop-next (first ∷ rest) zero x at = let same : Some first ≡ Some x = at in ap (λ (o : Option _). unwrap_or o x ∷ rest) same
-drop-next (first ∷ rest) (suc n) x at =
-    let one : suc n + 1 ≡ suc (n + 1) = omega arith in
-    drop-next rest n x at ∙ ap (λ (k : ℕ). x ∷ drop k (first ∷ rest)) (sym one)
+drop-next {X} xs n x at =
+    drop_more xs n x (slice_get_within xs n x at) ∙ ap (λ (one : X). one ∷ drop (n + 1) xs) (get_or_from_slice_get xs n x x at)
 
 at-drop : {X : Type 0} (xs : List X) (n : ℕ) → slice_get (drop n xs) 0 ≡ slice_get xs n
 at-drop [] zero = refl

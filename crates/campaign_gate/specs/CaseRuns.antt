@@ -9,6 +9,7 @@ use Rattle.flow_core.specs.Words.{most_letters}
 use Rattle.flow_core.specs.Readings.{over_codes}
 use Rattle.flow_core.specs.Summaries.{may_make}
 use Rattle.flow_core.specs.Bares.{BareState}
+use Rattle.flow_core.specs.BookFlows.{BookFlowState, book_flow_of}
 use Rattle.flow_core.specs.Cells.{CellState, flow_at, world_at}
 use Rattle.flow_core.specs.Cores.{CoreState}
 use Rattle.flow_core.specs.LettersLeft.{left_at}
@@ -50,6 +51,10 @@ link_at cell = record {
 -- the flow of a case after its campaign word
 abbrev pub core_of_case : Case → CoreState
 core_of_case case = given_at (planned case)
+
+-- and without its acknowledgements
+abbrev pub book_flow_of_case : Case → BookFlowState
+book_flow_of_case case = book_flow_of (core_of_case case)
 
 -- ---- the way
 

@@ -4,12 +4,12 @@ ghost use Rattle.std.specs.List.{All};
 ghost use Rattle.ccp_base.specs.Limits.{most_cases};
 ghost use Rattle.flow_core.specs.Readings.{over_codes};
 ghost use Rattle.flow_core.specs.Words.{world, legal, is_complete};
-ghost use Rattle.flow_core.specs.Cores.{CoreState};
+ghost use Rattle.flow_core.specs.BookFlows.{BookFlowState};
 ghost use Rattle.flow_core.specs.declared.book.Book.{Book};
 ghost use Rattle.campaign_core.specs.CampaignWord.{plan};
 ghost use Rattle.campaign_core.specs.CampaignRow.{case_row};
 ghost use Rattle.campaign_gate.specs.CampaignBooks.{acks_of_case, IsCampaignBook, AreCampaignBooks, HasSourcePlan};
-ghost use Rattle.campaign_gate.specs.CaseRuns.{core_of_case};
+ghost use Rattle.campaign_gate.specs.CaseRuns.{book_flow_of_case};
 ghost use Rattle.campaign_gate.specs.LiftedRow.{RowHoldsForSources};
 
 use crate::case_result::CaseResult;
@@ -17,7 +17,7 @@ use crate::queue::Queue;
 use crate::workers::make_by_workers;
 use campaign_core::{CaseAcks, Cases, Row, Rows};
 use ccp_base::{Acks, Gate, NoMemory, Sequence, Workers};
-use flow_core::{Book, Case, Core};
+use flow_core::{Book, BookFlow, Case};
 use std::alloc::Global;
 use std::marker::Brand;
 use std::thread::Threads;
@@ -55,27 +55,27 @@ pub fn rows<R: Threads + Sync, G: Gate + Sync>(
 pub type Books = Sequence<Book>;
 
 /// The books of flows that are after their campaign words.
-fn books_of(alloc: Global, cores: Sequence<Core>) -> Result<Books, NoMemory>
-    requires { All (λ (core : CoreState). core ≡ core_of_case core.case) cores }
+fn books_of(alloc: Global, flows: Sequence<BookFlow>) -> Result<Books, NoMemory>
+    requires { All (λ (flow : BookFlowState). flow ≡ book_flow_of_case flow.bare.case) flows }
     ensures cases { IfOk result (λ books. map (λ (book : Book). book.case) books
-        ≡ map (λ (core : CoreState). core.case) cores) }
+        ≡ map (λ (flow : BookFlowState). flow.bare.case) flows) }
     ensures books { IfOk result (All IsCampaignBook) }
 {
-    let mut cores = Queue::from_vec(cores.into_vec());
+    let mut flows = Queue::from_vec(flows.into_vec());
     let mut books = Books::new(alloc);
-    while let Some(core) = cores.take() {
-        books.push(book_of(core))?;
+    while let Some(flow) = flows.take() {
+        books.push(book_of(flow))?;
     }
     Ok(books)
 }
 
 /// The book of a flow that is after its campaign word. It is separate since the proof of its caller cites its clauses.
-fn book_of(core: Core) -> Book
-    requires { core ≡ core_of_case core.case }
-    ensures case { result.case ≡ core.case }
+fn book_of(flow: BookFlow) -> Book
+    requires { flow ≡ book_flow_of_case flow.bare.case }
+    ensures case { result.case ≡ flow.bare.case }
     ensures book { IsCampaignBook result }
 {
-    core.finish().book
+    flow.finish()
 }
 
 /// The book of each of at most 1,024 cases after its campaign word, in the order of the cases. The workers are those of
@@ -91,8 +91,14 @@ pub fn books<R: Threads + Sync, G: Gate + Sync>(
     ensures books { IfOk result (λ books. AreCampaignBooks cases books) }
     ensures source { (case : Case) → HasSourcePlan case }
 {
-    let cores = make_by_workers::<Brand, Core, R, G>(rt, alloc, cases.as_slice(), workers, gate)?;
-    books_of(alloc, cores)
+    let flows = make_by_workers::<Brand, BookFlow, R, G>(
+        rt,
+        alloc,
+        cases.as_slice(),
+        workers,
+        gate,
+    )?;
+    books_of(alloc, flows)
 }
 
 /// The acknowledgements that each of at most 1,024 cases gets on its campaign word, in the order of the cases. The

@@ -3,13 +3,13 @@ ghost use Rattle.std.specs.Prelude.{◌≡◌, IfOk};
 ghost use Rattle.flow_core.specs.declared.case.Case.{Case};
 ghost use Rattle.campaign_core.specs.CampaignRow.{case_row};
 ghost use Rattle.campaign_gate.specs.CampaignBooks.{acks_of_case};
-ghost use Rattle.campaign_gate.specs.CaseRuns.{core_of_case};
+ghost use Rattle.campaign_gate.specs.CaseRuns.{book_flow_of_case};
 
 use crate::case_run::run_to_end;
 use crate::listed_flow::ListedFlow;
 use campaign_core::{BareFlow, Row};
 use ccp_base::{Ack, Acks, NoMemory, Sequence};
-use flow_core::{Case, Core};
+use flow_core::{BookFlow, Case};
 use std::alloc::Global;
 
 /// A result that a worker makes of each of its cases.
@@ -34,11 +34,11 @@ impl CaseResult for Row {
 }
 
 /// The flow after its campaign word, from which a book is made.
-impl CaseResult for Core {
-    ghost of_case = { core_of_case };
+impl CaseResult for BookFlow {
+    ghost of_case = { book_flow_of_case };
 
-    fn make(alloc: Global, case: Case) -> Result<Core, NoMemory> {
-        let flow = run_to_end::<Core>(alloc, case)?;
+    fn make(alloc: Global, case: Case) -> Result<BookFlow, NoMemory> {
+        let flow = run_to_end::<BookFlow>(alloc, case)?;
         Ok(flow.flow)
     }
 }

@@ -27,10 +27,10 @@ fn code_counts(code: &Code) -> Counts
     ensures { result ≡ code_counts code.now }
 {
     Counts {
-        n1: code.reports.len() as u8,
-        n2: code.controls.len() as u8,
-        n3: code.events.len() as u16,
-        n4: code.instrs.len() as u16,
+        n1: code.reports().len() as u8,
+        n2: code.controls().len() as u8,
+        n3: code.events().len() as u16,
+        n4: code.instrs().len() as u16,
     }
 }
 

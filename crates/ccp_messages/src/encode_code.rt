@@ -106,8 +106,8 @@ pub fn put_code(out: &mut [u8], at: usize, program: u32, code: &Code) -> usize
     ensures wrote { Wrote at (body_bytes One (code_body program code.now)) out.old out.new result }
 {
     let end = put32(out, at, program);
-    let end = put_starts(out, end, code.reports.as_slice());
-    let end = put_starts(out, end, code.controls.as_slice());
-    let end = put_events(out, end, code.events.as_slice());
-    put_instrs(out, end, code.instrs.as_slice())
+    let end = put_starts(out, end, code.reports());
+    let end = put_starts(out, end, code.controls());
+    let end = put_events(out, end, code.events());
+    put_instrs(out, end, code.instrs())
 }

@@ -34,6 +34,14 @@ impl From<Stop> for Halt {
     }
 }
 
+impl From<NoMemory> for Halt {
+    ghost from_gives = { λ _ result. result ≡ halt.NoMemory no_memory };
+
+    fn from(error: NoMemory) -> Self {
+        Halt::NoMemory(error)
+    }
+}
+
 impl From<AllocError> for Halt {
     ghost from_gives = { λ _ result. result ≡ halt.NoMemory no_memory };
 

@@ -99,12 +99,7 @@ pub fn install(
     let (controls, rest) = starts(alloc, rest, counts.n2)?;
     let (events, rest) = events(alloc, rest, counts.n3)?;
     let (instrs, rest) = instrs(alloc, rest, counts.n4)?;
-    let code = Code {
-        reports,
-        controls,
-        events,
-        instrs,
-    };
+    let code = Code::new(alloc, reports, controls, events, instrs)?;
     Ok((
         Message::Install {
             flow,

@@ -3,9 +3,12 @@ use Rattle.std.proofs.Common.{◌≡◌, ℕ, zero, suc, ◌+◌, ◌-◌, ◌<�
 use Rattle.std.specs.List.{All, list_all, position_or_len}
 use Rattle.std.specs.Option.{option_and_then, option_map_or}
 use Rattle.std.proofs.Math.Seq.{take-append_seam, drop-append-add}
-use Rattle.std.proofs.lemmas.Bool.{and_parts, and_from, or_parts, eqb-true, true≢false}
+use Rattle.std.proofs.lemmas.Bool.{and_parts, and_from, or_parts, eqb-true, and_right, not-true}
 use Rattle.std.proofs.lemmas.Bool.Decides.{nat_tests}
 use Rattle.std.proofs.lemmas.List.{get_or-set_other}
+use Rattle.std.proofs.lemmas.List.Elements.{All-weaker}
+use Rattle.std.proofs.lemmas.List.Folds.{list_all-append}
+use Rattle.std.proofs.lemmas.List.Sums.{AllPass-from_list_all, list_all-from_AllPass}
 use Rattle.ccp_base.specs.declared.ack.Ack.{Ack}
 use Rattle.ccp_base.specs.declared.parts.Separator.{Separator}
 use Rattle.ccp_base.specs.declared.parts.Separator.TheVariants.{LineFeed, Blank}
@@ -14,13 +17,13 @@ use Rattle.ccp_base.specs.Limits.{most_acks, primitive_count}
 use Rattle.ccp_base.specs.Numerals.{is_digit, numeral_of}
 use Rattle.ccp_base.specs.Parts.{separates, parts_of, with_first, without_last}
 use Rattle.ccp_base.specs.PrimitiveNames.{PrimitiveName, primitive_names, value_named}
-use Rattle.ccp_base.specs.Truth.{is_true}
 use Rattle.ccp_base.proofs.PartLemmas.{without_last-other}
 use Rattle.fold_run.specs.declared.acks.LineFault.TheVariants.{TooMany}
 use Rattle.fold_run.specs.declared.line_values.LineValues.{LineValues}
 use Rattle.fold_run.specs.AckLine.{AckLine, nothing, given, refused, no_values, with_line_value, with_named_value, with_one_word, with_each_word, given_or_refused, begins_blank, ends_blank, read_ack_line}
 use Rattle.fold_run.specs.Acknowledgements.{with_line, with_lines}
 use Rattle.fold_run.proofs.NameLemmas.{IsNamed, AreNamed, is_name_byte, all_named, first_named, rest_named}
+use Rattle.reply_frames.proofs.BodyLaws.{true-back}
 use Rattle.campaign_report.specs.AcksText.{now_number, is_shown, gap, items_text, ack_line, ack_lines}
 use Rattle.ccp_base.proofs.DecimalLemmas.{decimal-digits, numeral_of-decimal}
 use Rattle.run_audit.proofs.Pieces.{IsPlain, plain-append, plain-of, ended-part}
@@ -42,10 +45,6 @@ word_byte : (s : Separator) (byte : ℕ) → in_word byte ≡ true → not (sepa
 word_byte Blank byte is = (in_word_parts byte is).0
 word_byte LineFeed byte is = (in_word_parts byte is).1
 
-not_true : (b : Bool) → not b ≡ true → b ≡ false
-not_true true is = absurd (true≢false (sym is))
-not_true false is = refl
-
 digit_in_word : (byte : ℕ) → is_digit byte ≡ true → in_word byte ≡ true
 digit_in_word byte is =
     and_from (not (separates Blank byte)) (not (separates LineFeed byte) && not (byte == 13)) (grind (arith, nat_tests, is))
@@ -56,16 +55,11 @@ abbrev IsWord : List ℕ → Type 0
 IsWord text = list_all in_word text ≡ true
 
 word-append : (x y : List ℕ) → IsWord x → IsWord y → IsWord (x ++ y)
-word-append [] y these those = those
-word-append (b ∷ x) y these those =
-    let parts = and_parts (in_word b) (list_all in_word x) these in
-    and_from (in_word b) (list_all in_word (x ++ y)) parts.0 (word-append x y parts.1 those)
+word-append x y these those = list_all-append in_word x y ∙ and_from (list_all in_word x) (list_all in_word y) these those
 
 word-digits : (text : List ℕ) → list_all is_digit text ≡ true → IsWord text
-word-digits [] is = refl
-word-digits (b ∷ text) is =
-    let parts = and_parts (is_digit b) (list_all is_digit text) is in
-    and_from (in_word b) (list_all in_word text) (digit_in_word b parts.0) (word-digits text parts.1)
+word-digits text is =
+    list_all-from_AllPass in_word text (All-weaker (λ b. is_digit b ≡ true) (λ b. in_word b ≡ true) digit_in_word text (AllPass-from_list_all is_digit text is))
 
 plain_word : (s : Separator) (text : List ℕ) → IsWord text → IsPlain s text
 plain_word s text is = plain-of s in_word text (word_byte s) is
@@ -129,12 +123,12 @@ module _ (text : List ℕ) (tight : IsTight text) where
   not_all_blank : list_all (separates Blank) text ≡ false
   not_all_blank =
       ap (list_all (separates Blank)) tight.begins
-      ∙ ap (λ b. b && list_all (separates Blank) tight.back) (not_true (separates Blank tight.first) (word_byte Blank tight.first tight.first_in))
+      ∙ ap (λ b. b && list_all (separates Blank) tight.back) (not-true (separates Blank tight.first) (word_byte Blank tight.first tight.first_in))
 
   begins_plain : begins_blank text ≡ false
   begins_plain =
       ap (λ (t : List ℕ). option_map_or (separates Blank) (slice_get t 0) false) tight.begins
-      ∙ not_true (separates Blank tight.first) (word_byte Blank tight.first tight.first_in)
+      ∙ not-true (separates Blank tight.first) (word_byte Blank tight.first tight.first_in)
 
   ends_plain : ends_blank text ≡ false
   ends_plain =
@@ -142,11 +136,11 @@ module _ (text : List ℕ) (tight : IsTight text) where
       ap ends_blank tight.ends
       ∙ ap (λ (n : ℕ). option_map_or (separates Blank) (slice_get (tight.front ++ tight.last ∷ []) n) false) count
       ∙ ap (λ (o : Option ℕ). option_map_or (separates Blank) o false) (at_end tight.front tight.last)
-      ∙ not_true (separates Blank tight.last) (word_byte Blank tight.last tight.last_in)
+      ∙ not-true (separates Blank tight.last) (word_byte Blank tight.last tight.last_in)
 
   no_return : without_last 13 text ≡ text
   no_return =
-      let other : (tight.last == 13) ≡ false = not_true (tight.last == 13) (in_word_parts tight.last tight.last_in).2 in
+      let other : (tight.last == 13) ≡ false = not-true (tight.last == 13) (in_word_parts tight.last tight.last_in).2 in
       sym (without_last-other 13 text tight.front tight.last tight.ends (grind (arith, nat_tests, other)))
 
   -- such a line says what its words say
@@ -166,10 +160,8 @@ name_in_word byte is =
     (and_from (not (separates LineFeed byte)) (not (byte == 13)) (grind (arith, nat_tests, is)) (grind (arith, nat_tests, is)))
 
 word-name : (name : List ℕ) → list_all is_name_byte name ≡ true → IsWord name
-word-name [] are = refl
-word-name (b ∷ name) are =
-    let parts = and_parts (is_name_byte b) (list_all is_name_byte name) are in
-    and_from (in_word b) (list_all in_word name) (name_in_word b parts.0) (word-name name parts.1)
+word-name name are =
+    list_all-from_AllPass in_word name (All-weaker (λ b. is_name_byte b ≡ true) (λ b. in_word b ≡ true) name_in_word name (AllPass-from_list_all is_name_byte name are))
 
 no-equals : (name : List ℕ) → list_all is_name_byte name ≡ true → list_all (λ byte. not (byte == 61)) name ≡ true
 no-equals [] are = refl
@@ -200,10 +192,10 @@ module _ (ack : Ack) where
   last_part [] some plain = absurd (omega (arith, some))
   last_part (byte ∷ []) some plain =
       let parts = and_parts (not (separates Blank byte)) true plain.plain in
-      ap (λ (b : Bool). cond b ([] ∷ []) ((byte ∷ []) ∷ [])) (not_true (separates Blank byte) parts.0)
+      ap (λ (b : Bool). cond b ([] ∷ []) ((byte ∷ []) ∷ [])) (not-true (separates Blank byte) parts.0)
   last_part (byte ∷ next ∷ text) some plain =
       let parts = and_parts (not (separates Blank byte)) (list_all (λ b. not (separates Blank b)) (next ∷ text)) plain.plain in
-      ap (λ (b : Bool). cond b ([] ∷ parts_of Blank (next ∷ text)) (with_first byte (parts_of Blank (next ∷ text)))) (not_true (separates Blank byte) parts.0)
+      ap (λ (b : Bool). cond b ([] ∷ parts_of Blank (next ∷ text)) (with_first byte (parts_of Blank (next ∷ text)))) (not-true (separates Blank byte) parts.0)
       ∙ ap (with_first byte) (last_part (next ∷ text) (omega arith) (record { plain = parts.1 }))
 
   -- the parts of a word and the items after it
@@ -325,10 +317,6 @@ keep-front d n [] is = refl
 keep-front {A} d zero (x ∷ xs) is = ap (λ (y : A). y ∷ front d zero xs) (sym is)
 keep-front d (suc n) (x ∷ xs) is = ap (λ l. x ∷ l) (keep-front d n xs is)
 
-and-false : (b : Bool) → (b && false) ≡ false
-and-false true = refl
-and-false false = refl
-
 module _ (ack : Ack) (fits : IsOf64Bits ack) where
   fits_at : (number : ℕ) → number < primitive_count → prim number ack < 2 ^ 64
   fits_at number below = fits number 0 below
@@ -342,7 +330,7 @@ module _ (ack : Ack) (fits : IsOf64Bits ack) where
 
       go : (b : Bool) → is_flag number ≡ b → (nat_lt 1 (prim number ack) && b) ≡ false
       go true is = ap (λ (n : ℕ). nat_lt 1 (prim n ack) && true) (eqb-true number flag_number is) ∙ bool_within ack.was_timeout
-      go false is = and-false (nat_lt 1 (prim number ack))
+      go false is = and_right (nat_lt 1 (prim number ack)) false refl
 
   -- the values of all primitives below this number
   record HasValues (number : ℕ) (values : LineValues) : Type 0 where
@@ -429,12 +417,8 @@ module _ (ack : Ack) (fits : IsOf64Bits ack) where
   none_named (suc n) zero = refl
   none_named (suc n) (suc k) = none_named n k
 
-  given_back : (truth : Bool) → is_true (bool_number truth) ≡ truth
-  given_back true = refl
-  given_back false = refl
-
   as_ack : ack_of (primitives ack) ≡ ack
-  as_ack = λ i. record ack { was_timeout = given_back ack.was_timeout i }
+  as_ack = λ i. record ack { was_timeout = true-back ack.was_timeout i }
 
   said : read_ack_line (without_last 13 line) ≡ given ack
   said =

@@ -6,7 +6,7 @@ use Rattle.std.specs.List.{All}
 use Rattle.std.specs.List.Sorted.{IsStrictlyIncreasing}
 use Rattle.std.specs.Option.{ForSome}
 use Rattle.std.proofs.Math.Path.{PathP, to_path_p}
-use Rattle.std.proofs.lemmas.Option.{slice_get-map}
+use Rattle.std.proofs.lemmas.Option.{slice_get-map, same_Some}
 use Rattle.ccp_base.specs.declared.look.Role.{Role}
 use Rattle.ccp_base.specs.declared.place.Place.{Place}
 use Rattle.ccp_base.specs.Limits.{most_segment_bytes, most_queue, most_mark, most_delay_us, most_timeout_us}
@@ -141,9 +141,6 @@ module _ (programs : List (ℕ × Built)) (number : ℕ) (coded : Coded) where
       ∙ roles (slice_get programs number)
       ∙ ap (option_map (λ (c : Coded). c.role)) is
 
-some_one : {A : Type 0} {a b : A} → Some a ≡ Some b → a ≡ b
-some_one e = cc
-
 head_one : {A : Type 0} {a b : A} {xs ys : List A} → a ∷ xs ≡ b ∷ ys → a ≡ b
 head_one e = cc
 
@@ -158,7 +155,7 @@ one_none e = cc
 
 module _ (these those : List (ℕ × Built)) (forms : sources_of these ≡ sources_of those) where
   one_role : (number other : ℕ) (left right : Coded) → number ≡ other → coded_at these number ≡ Some left → coded_at those other ≡ Some right → left.role ≡ right.role
-  one_role number other left right same l r = some_one (
+  one_role number other left right same l r = same_Some left.role right.role (
       sym (role_found these number left l)
       ∙ (λ i. role_at (forms i) (same i))
       ∙ role_found those other right r)

@@ -1,10 +1,11 @@
 -- The modes that their caller does alone have what the theorem asks of a mode.
-use Rattle.std.proofs.Common.{◌≡◌, ◌≢◌, ◌≤◌, ◌<◌, ◌∙◌, ◌⊎◌, inl, inr, leb, arith, ℕ, ◌+◌, Bool, true, false, nat_lt, cond, refl, List, [], ◌∷◌, ◌++◌, length, Option, Some, None, option_map, Result, Ok, Err, ap}
+use Rattle.std.proofs.Common.{◌≡◌, ◌≢◌, ◌≤◌, ◌<◌, ◌∙◌, ◌⊎◌, inl, inr, leb, arith, ℕ, ◌+◌, Bool, true, false, nat_lt, cond, refl, List, [], ◌∷◌, ◌++◌, length, Option, Some, None, option_map, Result, Ok, Err, ap, true≢false}
+use Rattle.std.proofs.lemmas.Bool.{cases_lt}
 use Rattle.ccp_base.specs.declared.ack.Ack.{Ack}
 use Rattle.ccp_base.specs.declared.parts.Separator.TheVariants.{LineFeed}
 use Rattle.ccp_base.specs.Limits.{most_acks, most_input_bytes}
 use Rattle.ccp_base.specs.Parts.{parts_of, without_last}
-use Rattle.std.proofs.lemmas.Bool.Decides.{leb_tells, nat_tests}
+use Rattle.std.proofs.lemmas.Bool.Decides.{nat_tests}
 use Rattle.ccp_base.specs.Outside.{no_memory}
 use Rattle.feed_core.proofs.FeedBegins.{no-answers}
 use Rattle.scenario_json.specs.declared.fault.SceneFault.{SceneFault}
@@ -40,7 +41,7 @@ use Rattle.ccp_run.specs.AuditRuns.{IsAuditCut, IsAuditInput, IsAuditOutput, IsN
 use Rattle.ccp_run.specs.ErrorLine.{most_bytes}
 use Rattle.ccp_run.specs.Settled.{IsInputSettled}
 use Rattle.ccp_run.proofs.DriveModes.{drive_mode}
-use Rattle.ccp_run.proofs.ModeLaws.{IsMode, no_both, reads_to_end, settled_by}
+use Rattle.ccp_run.proofs.ModeLaws.{IsMode, reads_to_end, settled_by}
 use Rattle.ccp_run.proofs.ScenarioInputs.{refusal_in}
 
 -- ---- texts of programs
@@ -216,10 +217,6 @@ abbrev audit_refusal : Option Cut → Option Refusal
 audit_refusal None = Some NoSeparator
 audit_refusal (Some cut) = scenario_refusal (leb (length cut.program) (most_bytes Input)) (scene_of scene.Live cut.program)
 
-either : (a b : ℕ) → ((leb a b ≡ true) × (a ≤ b)) ⊎ ((leb a b ≡ false) × (b < a)) → (a ≤ b) ⊎ (b < a)
-either a b (inl few) = inl few.1
-either a b (inr more) = inr more.1
-
 module _ (bytes : List ℕ) where
   at_short : (cut : Cut) → IsAuditCut bytes cut → audit_refusal (cut_of bytes) ≡ refusal_in (scene_of scene.Live cut.program)
   at_short cut at =
@@ -248,14 +245,14 @@ module _ (bytes : List ℕ) where
   at_scene cut at (Ok said) is = inl (said, record { cut = cut; at = at; says = is })
   at_scene cut at (Err fault) is = inr (SceneRefused fault, record { cut = cut; at = at; refused = is })
 
-  at_length : (cut : Cut) → cut_of bytes ≡ Some cut → (length cut.program ≤ most_bytes Input) ⊎ (most_bytes Input < length cut.program)
+  at_length : (cut : Cut) → cut_of bytes ≡ Some cut → (most_bytes Input < length cut.program) ⊎ (length cut.program ≤ most_bytes Input)
       → IsAuditInput bytes ⊎ ((refusal : Refusal) × IsNoAudit bytes refusal)
-  at_length cut is (inl short) = at_scene cut (record { at_separator = is; short = short }) (scene_of scene.Live cut.program) refl
-  at_length cut is (inr long) = inr (TooLong Input, record { cut = cut; at_separator = is; long = long })
+  at_length cut is (inl long) = inr (TooLong Input, record { cut = cut; at_separator = is; long = long })
+  at_length cut is (inr short) = at_scene cut (record { at_separator = is; short = short }) (scene_of scene.Live cut.program) refl
 
   at_cut : (o : Option Cut) → cut_of bytes ≡ o → IsAuditInput bytes ⊎ ((refusal : Refusal) × IsNoAudit bytes refusal)
   at_cut None is = inr (NoSeparator, is)
-  at_cut (Some cut) is = at_length cut is (either (length cut.program) (most_bytes Input) (leb_tells (length cut.program) (most_bytes Input)))
+  at_cut (Some cut) is = at_length cut is (cases_lt (most_bytes Input) (length cut.program))
 
   settled_audit : IsInputSettled (Alone mode.Audit) bytes
   settled_audit =
@@ -269,9 +266,9 @@ feed_mode : IsMode feed_rules
 feed_mode = record {
   settled = settled_feed;
   begins = no-answers;
-  quiet = λ quiet bytes. no_both quiet;
-  plain = λ plain. no_both plain;
-  unread = λ unread bytes refusal refused. no_both unread;
+  quiet = λ quiet bytes. absurd (true≢false quiet);
+  plain = λ plain. absurd (true≢false plain);
+  unread = λ unread bytes refusal refused. absurd (true≢false unread);
 }
 
 pub alone_mode : (alone : AloneMode) → IsMode (rules_of (Alone alone))

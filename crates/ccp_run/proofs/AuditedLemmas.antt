@@ -1,7 +1,9 @@
 -- `audit` of a scenario and its timeline says yes.
-use Rattle.std.proofs.Common.{◌≡◌, ◌∙◌, ℕ, false, Result, Ok, Some, List, map, ap, sym, subst}
+use Rattle.std.proofs.Common.{◌≡◌, ◌∙◌, ℕ, false, List, map, ap, sym, subst, refl}
 use Rattle.std.specs.List.{All}
 use Rattle.std.proofs.lemmas.List.Elements.{All-map}
+use Rattle.std.proofs.lemmas.Option.{same_Some}
+use Rattle.std.proofs.lemmas.Result.{IfOk-at_ok}
 use Rattle.reg_compiler.specs.declared.built.Built.{Built}
 use Rattle.flow_core.specs.declared.book.Book.{Book}
 use Rattle.flow_core.specs.declared.case.Case.{Case}
@@ -11,7 +13,7 @@ use Rattle.fold_run.specs.Separated.{Cut}
 use Rattle.campaign_report.specs.BooksRead.{flows_of}
 use Rattle.scene_members.specs.declared.mode.SceneMode.TheVariants as scene
 use Rattle.scene_core.specs.CasePlans.{plan_of}
-use Rattle.scenario_json.specs.Scene.{Scene, scene_with, scene_of}
+use Rattle.scenario_json.specs.Scene.{Scene, scene_with}
 use Rattle.run_audit.specs.Audit.{IsWordOf, IsLiveText}
 use Rattle.run_audit.proofs.WordsLemmas.{yes_only}
 use Rattle.ccp_run.specs.declared.outcome.ModeOutput.{ModeOutput}
@@ -22,17 +24,10 @@ use Rattle.ccp_run.specs.TextLaws.{AuditsTimelines}
 use Rattle.ccp_run.specs.Timeline.{IsTimelineOutput, source_plan, planned_by}
 use Rattle.ccp_run.proofs.AlikeLemmas.{all_alike, words_alike, texts_alike}
 
-one_some : {A : Type 0} {a b : A} → Some a ≡ Some b → a ≡ b
-one_some e = cc
-
-one_ok : {A E : Type 0} (found : Result A E) (a b : A) → found ≡ Ok a → found ≡ Ok b → a ≡ b
-one_ok found a b l r = let both : Ok a ≡ Ok b = sym l ∙ r in cc
-
 -- ---- one scenario
 
 one_scene : (bytes : List ℕ) (left right : Scene) → Says scene.Live bytes left → Says scene.Live bytes right → left ≡ right
-one_scene bytes left right l r =
-    one_ok (scene_of scene.Live bytes) left right l r
+one_scene bytes left right l r = IfOk-at_ok (λ (found : Scene). left ≡ found) (sym l ∙ r) refl
 
 -- ---- the words of books
 
@@ -63,7 +58,7 @@ live_text_of bytes output is those others scenario =
 
 pub audited : AuditsTimelines
 audited bytes output is input cut at program text made audit =
-    let same : audit.cut ≡ cut = one_some (sym audit.at.at_separator ∙ at.at_separator) in
+    let same : audit.cut ≡ cut = same_Some audit.cut cut (sym audit.at.at_separator ∙ at.at_separator) in
     let bytes_same : audit.cut.program ≡ bytes = ap (λ (c : Cut). c.program) same ∙ program in
     let text_same : audit.cut.rest ≡ output.text = ap (λ (c : Cut). c.rest) same ∙ text in
     let scenario : IsScenario scene.Live bytes audit.programs audit.cases =

@@ -1,7 +1,7 @@
 -- What more bytes behind an input of `drive` change.
-use Rattle.std.proofs.Common.{◌≡◌, ℕ, ◌+◌, ◌-◌, ◌≤◌, Bool, true, false, nat_lt, Option, Some, None, Result, Ok, Err, List, [], ◌∷◌, ◌++◌, length, ap, sym, refl, ◌∙◌, arith, append_assoc, length-append}
+use Rattle.std.proofs.Common.{◌≡◌, ℕ, ◌+◌, ◌-◌, Bool, true, false, nat_lt, Option, Some, None, Result, Ok, Err, List, [], ◌∷◌, ◌++◌, length, ap, sym, refl, ◌∙◌, arith, append_assoc, length-append}
 use Rattle.std.specs.Prelude.{if◌then◌else◌}
-use Rattle.std.proofs.lemmas.Bool.Decides.{nat_tests}
+use Rattle.std.proofs.lemmas.Bool.{ltb-false}
 use Rattle.ccp_base.specs.Limits.{most_input_bytes, most_audit_bytes}
 use Rattle.feed_core.specs.FeedBytes.{Tail, left, bad, Fed, answer_bytes, frames_from}
 use Rattle.feed_core.specs.Answering.{end_from}
@@ -91,9 +91,6 @@ whole-end (left place (byte ∷ rest)) waits false is = absurd cc
 whole-end (left place []) true false is = absurd cc
 whole-end (left place []) false false is = record { nothing = tt; over = refl; within = refl }
 
-not-over : (most count : ℕ) → nat_lt most count ≡ false → count ≤ most
-not-over most count is = grind (arith, nat_tests, is)
-
 -- more bytes behind a beginning of this many bytes add refusals alone
 record AddsRefusals (size : ℕ) (more : List ℕ) (beginning : Beginning) : Type 0 where
   pub same : flows_in (with_more more beginning) ≡ flows_in beginning
@@ -105,7 +102,7 @@ scene-over size place frames more scene ends is =
     let first : List ℕ = answer_bytes (first_frame (begun scene)) in
     let here : Fed SessionState = frames_from hear most_audit_bytes place (begun scene) frames in
     let whole = whole-end here.tail (waits here.state) (nat_lt (most_audit_bytes - place) (length frames)) is in
-    let goes = goes-on-after-frames hear waits most_audit_bytes place (begun scene) frames more (not-over (most_audit_bytes - place) (length frames) whole.within) whole.nothing in
+    let goes = goes-on-after-frames hear waits most_audit_bytes place (begun scene) frames more (ltb-false (most_audit_bytes - place) (length frames) whole.within) whole.nothing in
     let alone = refuses-after-end here.state whole.over most_audit_bytes (place + length frames) more in
     record {
       same = ap (λ (s : SessionState). s.ended) (goes.state ∙ alone.same);

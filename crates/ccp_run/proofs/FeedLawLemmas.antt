@@ -1,11 +1,13 @@
 -- `feed` answers about a program what `fold` prints.
-use Rattle.std.proofs.Common.{◌≡◌, ◌∙◌, ℕ, zero, suc, ◌+◌, ◌-◌, ◌<◌, ◌≤◌, nat_lt, Bool, true, false, cond, Option, Some, None, option_map, unwrap_or, Result, Ok, List, [], ◌∷◌, ◌++◌, length, map, replicate, drop, get_or, slice_get, slice_set, refl, ap, sym, subst, arith, append_assoc, length-append, length-set}
+use Rattle.std.proofs.Common.{◌≡◌, ◌∙◌, ℕ, zero, suc, ◌+◌, ◌-◌, ◌<◌, ◌≤◌, nat_lt, Bool, true, false, cond, Option, Some, None, option_map, unwrap_or, Ok, List, [], ◌∷◌, ◌++◌, length, map, replicate, drop, get_or, slice_get, slice_set, refl, ap, sym, subst, arith, append_assoc, length-append, length-set}
 use Rattle.std.specs.Option.{ForSome, option_or}
 use Rattle.std.specs.List.{AllByRecursion}
 use Rattle.std.proofs.Math.Seq.{drop-append_seam}
 use Rattle.std.proofs.lemmas.Bool.{lt-ltb, le-ltb}
 use Rattle.std.proofs.lemmas.List.{take_all, map-append, length-map, get_or-set_same, get_or-drop, length-drop, drop-drop}
-use Rattle.std.proofs.lemmas.Option.{none-some, slice_get-get_or, slice_get_within}
+use Rattle.std.proofs.lemmas.List.Elements.{All-replicate, recursion_from_All}
+use Rattle.std.proofs.lemmas.Option.{none-some, same_Some, slice_get-get_or, slice_get_within}
+use Rattle.std.proofs.lemmas.Result.{IfOk-at_ok}
 use Rattle.ccp_base.specs.declared.ack.Ack.{Ack}
 use Rattle.ccp_base.specs.declared.arithmetic.FaultKind.{FaultKind}
 use Rattle.ccp_base.specs.declared.exchange.Notice.{Notice}
@@ -68,12 +70,6 @@ next-item n xs x rest is =
 
 items-after : {X : Type 0} (n : ℕ) (xs : List X) (x : X) (rest : List X) → x ∷ rest ≡ drop n xs → rest ≡ drop (n + 1) xs
 items-after n xs x rest is = ap (drop 1) is ∙ drop-drop 1 n xs
-
-one_some : {X : Type 0} {a b : X} → Some a ≡ Some b → a ≡ b
-one_some e = cc
-
-one_ok : {X F : Type 0} {a b : X} → ◌≡◌ {A = Result X F} (Ok a) (Ok b) → a ≡ b
-one_ok e = cc
 
 -- what is put at a place is there
 put-there : {X : Type 0} (xs : List (Option X)) (n : ℕ) (x : X) → n < length xs → there (slice_set xs n (Some x)) n ≡ Some x
@@ -306,7 +302,7 @@ module _ (d : Deployment) (built : Built) (all : List Ack) where
         reports = (λ i. said i ++ none i) ∙ sym (ap (λ (rs : List Report). map (measure_of d) rs ++ fault_of d notice ∷ []) no_more);
         fault = sym (ap (λ f. option_or f (epoch_fault (by_source form) (map with_room rest) track)) is);
         noticed = λ other e.
-            subst (λ (n : Notice). IsFoldNotice all places (after (by_source form) (map with_room rest) track).env.cwnd n) (one_some e)
+            subst (λ (n : Notice). IsFoldNotice all places (after (by_source form) (map with_room rest) track).env.cwnd n) (same_Some notice other e)
             (subst (λ (env : Env). IsFoldNotice all places env.cwnd notice) (sym (stopped-env form rest track stops)) noticed);
       }
 
@@ -368,7 +364,7 @@ module _ (d : Deployment) (built : Built) (all : List Ack) where
         ∙ ap (λ r. counted (installed_as r with_created d.version d.flow d.program code)) built.simulates.0
 
     start-parts : (bad : Option ℕ) (env goal : Env) → start_from bad d.values env ≡ Ok goal → (bad ≡ None) × (epochs.with_values d.values env ≡ goal)
-    start-parts None env goal e = (refl, one_ok e)
+    start-parts None env goal e = (refl, IfOk-at_ok (λ (end : Env). epochs.with_values d.values env ≡ end) e refl)
     start-parts (Some place) env goal e = absurd cc
 
     abbrev declared : Env
@@ -437,8 +433,7 @@ answers-as-fold built acks state d starts =
 -- ---- a datapath without flows
 
 all-same : {A : Type 0} (P : A → Type 0) (x : A) → P x → (n : ℕ) → AllByRecursion P (replicate n x)
-all-same P x is zero = tt
-all-same P x is (suc n) = (is, all-same P x is n)
+all-same P x is n = recursion_from_All P (replicate n x) (All-replicate P n x is)
 
 none-there : {A : Type 0} (count n : ℕ) → there {A = A} (replicate count None) n ≡ None
 none-there zero n = refl

@@ -1,5 +1,6 @@
 -- What the theorem asks of each mode's rules, which a mode that reads its input to the end mostly has at once.
-use Rattle.std.proofs.Common.{◌≡◌, ◌∙◌, ◌⊎◌, refl, sym, true, false, Option, Some, None, List, ℕ, []}
+use Rattle.std.proofs.Common.{◌≡◌, ◌∙◌, ◌⊎◌, refl, sym, false, Option, Some, None, List, ℕ, [], true≢false}
+use Rattle.std.proofs.lemmas.Option.{same_Some, none-some}
 use Rattle.ccp_run.specs.declared.outcome.ModeOutput.{ModeOutput}
 use Rattle.ccp_run.specs.declared.refusal.Limit.{Limit}
 use Rattle.ccp_run.specs.declared.refusal.Refusal.{Refusal}
@@ -17,9 +18,6 @@ pub record IsMode (rules : Rules) : Type 0 where
   -- a mode that doesn't read its source refuses nothing
   pub unread : rules.is_read ≡ false → (bytes : List ℕ) (refusal : Refusal) → rules.IsRefused bytes refusal → ⊥
 
-pub no_both : {A : Type 0} → true ≡ false → A
-no_both e = let bad : ⊥ = cc in absurd bad
-
 -- a mode that reads its input to the end and then writes
 module _ (most : Limit) (inputs : List ℕ → Type 0) (made : List ℕ → ModeOutput → Type 0) (refused : List ℕ → Refusal → Type 0) where
   pub reads_to_end : ((bytes : List ℕ) → IsSettledBy (reads_whole most inputs made refused) bytes) → IsMode (reads_whole most inputs made refused)
@@ -28,16 +26,10 @@ module _ (most : Limit) (inputs : List ℕ → Type 0) (made : List ℕ → Mode
     begins = refl;
     quiet = λ _ bytes. refl;
     plain = λ _. (refl, λ bytes. tt);
-    unread = λ not bytes refusal bad. no_both not;
+    unread = λ not bytes refusal bad. true≢false not;
   }
 
 -- ---- settled inputs
-
-one_some : {X : Type 0} {a b : X} → Some a ≡ Some b → a ≡ b
-one_some e = cc
-
-none_some : {X : Type 0} {b : X} → None ≡ Some b → ⊥
-none_some e = cc
 
 -- bytes are settled by what is found of them: an input has no refusal, and each refusal is the one that is found
 module _ (rules : Rules) (bytes : List ℕ) (found : Option Refusal)
@@ -48,7 +40,7 @@ module _ (rules : Rules) (bytes : List ℕ) (found : Option Refusal)
   pub settled_by : IsSettledBy rules bytes
   settled_by = record {
     some = some;
-    apart = λ refusal input bad. none_some (sym (none input) ∙ one refusal bad);
-    one_refusal = λ left right l r. one_some (sym (one left l) ∙ one right r);
+    apart = λ refusal input bad. none-some refusal (sym (none input) ∙ one refusal bad);
+    one_refusal = λ left right l r. same_Some left right (sym (one left l) ∙ one right r);
     made = made;
   }

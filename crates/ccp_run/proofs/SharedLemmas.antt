@@ -1,6 +1,7 @@
 -- A scenario's codes simulate its programs in each of its cases, and its link is within the limits.
-use Rattle.std.proofs.Common.{◌≡◌, ◌∙◌, ◌≤◌, sym, ℕ, zero, suc, Bool, true, false, if◌then◌else◌, Some, None, List, [], ◌∷◌, length, map, slice_get, ap, subst, refl, arith}
+use Rattle.std.proofs.Common.{◌≡◌, ◌∙◌, ◌≤◌, sym, ℕ, zero, suc, Bool, true, false, if◌then◌else◌, Some, List, [], ◌∷◌, length, map, slice_get, ap, subst, refl, arith}
 use Rattle.std.proofs.lemmas.List.{length-map}
+use Rattle.std.proofs.lemmas.Option.{same_Some, none-some}
 use Rattle.std.specs.List.{All}
 use Rattle.ccp_base.specs.declared.ack.Ack.{Ack}
 use Rattle.ccp_base.specs.Limits.{most_flows, most_queue, most_quantum_us}
@@ -24,12 +25,6 @@ use Rattle.shared_run.proofs.TurnLemmas.{part-case, settled-case}
 use Rattle.shared_run.specs.SharedHistory.{Progress, progress, asks_of, parts, after_round, have_all, rounds_from, round_limit, whole_run, flows_at_end, shared_rows}
 use Rattle.ccp_run.proofs.CodedLemmas.{simulated}
 
-one_some : {A : Type 0} (left right : A) → Some left ≡ Some right → left ≡ right
-one_some left right e = cc
-
-no_some : {A : Type 0} (right : A) → None ≡ Some right → ⊥
-no_some right e = cc
-
 module _ (programs : List (ℕ × Built)) (numbered : AreNumberedFrom 0 programs) where
   case_simulated : (case : Case) → IsCoded programs case → AreSimulated (flow_from (sources_of programs)) case
   case_simulated case coded =
@@ -47,9 +42,9 @@ module _ (programs : List (ℕ × Built)) (numbered : AreNumberedFrom 0 programs
 
   pub all_simulated : (cases : List Case) → All (IsCoded programs) cases → (k : ℕ) (case : Case) → slice_get cases k ≡ Some case
       → AreSimulated (flow_from (sources_of programs)) case
-  all_simulated [] coded k case is = absurd (no_some case is)
+  all_simulated [] coded k case is = absurd (none-some case is)
   all_simulated (first ∷ rest) coded zero case is =
-      subst (λ (c : Case). AreSimulated (flow_from (sources_of programs)) c) (one_some first case is) (case_simulated first (coded 0 first (omega arith)))
+      subst (λ (c : Case). AreSimulated (flow_from (sources_of programs)) c) (same_Some first case is) (case_simulated first (coded 0 first (omega arith)))
   all_simulated (first ∷ rest) coded (suc k) case is =
       all_simulated rest (λ j d h. coded (suc j) d (omega (arith, h))) k case is
 

@@ -3,6 +3,7 @@ use Rattle.std.proofs.Common.{◌≡◌, ◌⊎◌, inl, inr, ◌≤◌, ◌<◌
 use Rattle.std.specs.List.Sorted.{IsStrictlyIncreasing}
 use Rattle.std.specs.Option.{ForSome}
 use Rattle.std.proofs.lemmas.Bool.Decides.{leb_tells}
+use Rattle.std.proofs.lemmas.Option.{same_Some, none-some}
 use Rattle.ccp_base.specs.Limits.{most_acks, most_slots, most_lag, most_segment_bytes, most_queue, most_mark, most_delay_us, most_timeout_us}
 use Rattle.scene_members.specs.declared.plan.Plan.{Plan}
 use Rattle.driven_flow.specs.declared.case.DrivenCase.{DrivenCase}
@@ -38,14 +39,11 @@ rising (x ∷ []) = Some (λ k inside. absurd (omega (arith, inside)))
 rising (x ∷ y ∷ rest) =
     where_so (at_most (suc x) y) (λ above. option_map (rise_on x y rest above) (rising (y ∷ rest)))
 
-pub one_some : {n m : ℕ} → Some n ≡ Some m → n ≡ m
-one_some e = cc
-
 pub marked : (n : ℕ) → (1 ≤ n) × (n ≤ most_mark) → ForSome (Some n) (λ m. (1 ≤ m) × (m ≤ most_mark))
-marked n is m same = subst (λ k. (1 ≤ k) × (k ≤ most_mark)) (one_some same) is
+marked n is m same = subst (λ k. (1 ≤ k) × (k ≤ most_mark)) (same_Some n m same) is
 
 pub unmarked : ForSome None (λ m. (1 ≤ m) × (m ≤ most_mark))
-unmarked m none = cc
+unmarked m none = absurd (none-some m none)
 
 -- a mark, if there is one, is 1 to 4,096
 abbrev pub marking : (mark : Option ℕ) → Option (ForSome mark (λ m. (1 ≤ m) × (m ≤ most_mark)))

@@ -39,14 +39,14 @@ pub fn verify(code: Code) -> Result<Checked, Rejected>
 fn refusal(code: &Code) -> Option<(Rule, u32)>
     ensures { result ≡ rejected code.now }
 {
-    let events = code.events.as_slice();
+    let events = code.events();
     if let Some(refusal) = counts_refusal(code) {
         return Some(refusal);
     }
-    if let Some(refusal) = events_refusal(events, code.instrs.len()) {
+    if let Some(refusal) = events_refusal(events, code.instrs().len()) {
         return Some(refusal);
     }
-    instrs_refusal(sizes_of(code), events, code.instrs.as_slice())
+    instrs_refusal(sizes_of(code), events, code.instrs())
 }
 
 fn counts_refusal(code: &Code) -> Option<(Rule, u32)>
@@ -54,10 +54,10 @@ fn counts_refusal(code: &Code) -> Option<(Rule, u32)>
     ensures events { IfNone result (length code.now.events ≤ most_blocks) }
     ensures instrs { IfNone result (length code.now.instrs ≤ most_instrs) }
 {
-    refusal_where(code.reports.len() > FIELDS as usize, Rule::Counts, 0)
-        .or(refusal_where(code.controls.len() > CONTROLS, Rule::Counts, 1))
-        .or(refusal_where(code.events.len() > EVENTS, Rule::Counts, 2))
-        .or(refusal_where(code.instrs.len() > INSTRS, Rule::Counts, 3))
+    refusal_where(code.reports().len() > FIELDS as usize, Rule::Counts, 0)
+        .or(refusal_where(code.controls().len() > CONTROLS, Rule::Counts, 1))
+        .or(refusal_where(code.events().len() > EVENTS, Rule::Counts, 2))
+        .or(refusal_where(code.instrs().len() > INSTRS, Rule::Counts, 3))
 }
 
 fn refusal_where(fails: bool, rule: Rule, index: u32) -> Option<(Rule, u32)>
@@ -70,8 +70,8 @@ fn sizes_of(code: &Code) -> Sizes
     ensures { result ≡ sizes_of code.now }
 {
     Sizes {
-        reports: code.reports.len(),
-        controls: code.controls.len(),
+        reports: code.reports().len(),
+        controls: code.controls().len(),
     }
 }
 

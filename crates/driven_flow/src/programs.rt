@@ -66,7 +66,7 @@ pub fn first_bad(programs: &Programs, number: u32, values: &Fields) -> Option<u3
     ensures { result ≡ first_bad_pair (length (code_in programs.now number).controls) values.now }
 {
     let code = code_of(programs, number).code();
-    values.first_bad(code.controls.len())
+    values.first_bad(code.controls().len())
 }
 
 /// The code of the first program with this number, which must be there.

@@ -68,7 +68,7 @@ fn is_too_wide(version: Version, code: &Checked) -> bool
     ensures { result ≡ is_too_wide version code.now.code }
 {
     match version {
-        Version::One => code.code().reports.len() > FIELDS_OF_ONE,
+        Version::One => code.code().reports().len() > FIELDS_OF_ONE,
         Version::Two => false,
     }
 }

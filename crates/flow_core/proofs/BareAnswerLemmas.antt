@@ -1,6 +1,7 @@
 -- What is kept after an answer is the summary after it.
-use Rattle.std.specs.Prelude.{◌≡◌, ℕ, ◌+◌, ◌≤◌, Option, Some, None, option_map, unwrap_or, List, length, refl}
+use Rattle.std.specs.Prelude.{◌≡◌, ℕ, ◌+◌, ◌≤◌, true, is_some, Option, Some, None, option_map, unwrap_or, List, length, refl}
 use Rattle.std.proofs.Common.{ap, sym, ◌∙◌, subst, arith}
+use Rattle.std.proofs.lemmas.Bool.{true≢false}
 use Rattle.std.proofs.lemmas.Option.{none-some}
 use Rattle.ccp_base.specs.FieldReg.{Pair}
 use Rattle.ccp_base.specs.declared.exchange.Reply.{Reply}
@@ -25,7 +26,7 @@ use Rattle.flow_core.specs.LiveText.{reports_told}
 use Rattle.flow_core.specs.Outbox.{Lies}
 use Rattle.flow_core.specs.States.{some_count}
 use Rattle.flow_core.specs.Summaries.{Summary, step_reply, step_out, step_answer}
-use Rattle.flow_core.specs.Bares.{reports_in, summary_by, told_ticket, InRange, IsBare, closed_parts, ObeysBare}
+use Rattle.flow_core.specs.Bares.{reports_in, out_by, summary_by, told_ticket, InRange, IsBare, closed_parts, ObeysBare}
 use Rattle.flow_core.proofs.ValueLemmas.{values-alike}
 
 -- ---- a reply is obeyed
@@ -73,7 +74,7 @@ range-closed case s issued agent out roles range = record {
 }
 
 -- an agent answers a report or a notice: what is kept after that
-module _ (s : BareParts) (parts : IsBare s) (issued : Issued) (out : s.out ≡ Some issued) where
+module _ (s : BareParts) (parts : IsBare s) (issued : Issued) (out : out_by s ≡ Some issued) where
   abbrev after : Agent
   after = (replied s.agent issued.told).0
 
@@ -172,16 +173,16 @@ module _ (s : BareParts) (parts : IsBare s) (issued : Issued) (out : s.out ≡ S
 -- the ticket that is out, by what is kept
 pub record Out (s : BareParts) (ticket : Ticket) : Type 0 where
   pub issued : Issued
-  pub out : s.out ≡ Some issued
+  pub out : out_by s ≡ Some issued
   pub before : ticket.before ≡ s.agent
   pub told : ticket.told ≡ issued.told
 
 pub is-out : (s : BareParts) (ticket : Ticket) → told_ticket s.case (summary_by s) ≡ Some ticket → Out s ticket
-is-out s ticket is = by s.out refl where
+is-out s ticket is = by (out_by s) refl where
   ticket_for : Issued → Ticket
   ticket_for issued = record { flow = s.case.flow; number = s.answered; before = s.agent; told = issued.told }
 
-  by : (out : Option Issued) → s.out ≡ out → Out s ticket
+  by : (out : Option Issued) → out_by s ≡ out → Out s ticket
   by None none = absurd (none-some ticket (sym (ap (option_map ticket_for) none) ∙ is))
   by (Some issued) some =
       let same : Some (ticket_for issued) ≡ Some ticket = sym (ap (option_map ticket_for) some) ∙ is in
@@ -192,3 +193,16 @@ is-out s ticket is = by s.out refl where
         before = sym (ap (λ (t : Ticket). t.before) equal);
         told = sym (ap (λ (t : Ticket). t.told) equal);
       }
+
+-- what the ticket that is out tells, and when it was taken
+abbrev pub issued-of : BareParts → Issued
+issued-of s = record { told = s.content; taken = unwrap_or s.taken 0 }
+
+pub issued-out : (s : BareParts) → is_some (out_by s) ≡ true → out_by s ≡ Some (issued-of s)
+issued-out s some = by s.taken some where
+  ticket_at : ℕ → Issued
+  ticket_at taken = record { told = s.content; taken = taken }
+
+  by : (o : Option ℕ) → is_some (option_map ticket_at o) ≡ true → option_map ticket_at o ≡ Some (ticket_at (unwrap_or o 0))
+  by None none = absurd (true≢false (sym none))
+  by (Some taken) there = refl

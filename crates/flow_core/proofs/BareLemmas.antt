@@ -1,6 +1,7 @@
 -- What is kept after a taking or an acknowledgement is the summary after it.
 use Rattle.std.specs.Prelude.{◌≡◌, ◌↔◌, IsTrue, ℕ, ◌+◌, ◌<◌, ◌≤◌, min, Bool, true, false, not, nat_lt, is_some, Option, Some, None, option_map, unwrap_or, List, [], ◌∷◌, ◌++◌, length, take, drop, refl}
 use Rattle.std.proofs.Common.{ap, sym, ◌∙◌, subst, arith, length-append, append-nil}
+use Rattle.std.proofs.lemmas.Bool.{true≢false}
 use Rattle.std.proofs.Math.Seq.{take-append_seam}
 use Rattle.std.proofs.lemmas.List.{take-append-drop}
 use Rattle.ccp_base.specs.Limits.{most_fields}
@@ -28,7 +29,7 @@ use Rattle.flow_core.specs.Readings.{Flow, env_of, code_at, by_code, over_codes}
 use Rattle.flow_core.specs.ReportWords.{narrow, report_in}
 use Rattle.flow_core.specs.States.{outcome_by, some_count}
 use Rattle.flow_core.specs.Summaries.{Summary, step_outcome, outcome_at, step_ack, next_telling, with_told, step_take, can_tell}
-use Rattle.flow_core.specs.Bares.{reports_in, summary_by, InRange, IsBare, step_note, step_machine, step_count, NotesBare, instructions_at}
+use Rattle.flow_core.specs.Bares.{reports_in, out_by, summary_by, InRange, IsBare, step_note, step_machine, step_count, NotesBare, instructions_at}
 use Rattle.flow_core.specs.Cores.{acked_as, ran_by}
 use Rattle.flow_core.specs.MachineCalls.{heard_on, ran_on}
 use Rattle.reg_code.specs.declared.code.Code.{Code}
@@ -131,13 +132,24 @@ can-tell pool [] None false same = absurd (let wrong : false ≡ true = same.1 (
 can-tell pool [] (Some notice) false same = refl
 can-tell pool (slot ∷ slots) untold false same = refl
 
+-- what tells something isn't without a report and a notice
+pub tells-some : (pool : PoolState) (slots : List ℕ) (untold : Option Notice) → is_some (next_telling (reports_in pool slots) untold) ≡ true
+    → (slots ≡ []) × (untold ≡ None) → ⊥
+tells-some pool slots untold some both =
+    true≢false (sym some ∙ (λ i. is_some (next_telling (reports_in pool (both.0 i)) (both.1 i))))
+
+-- what is made of a thing is there if and only if that is
+pub some-mapped : {A B : Type 0} (f : A → B) (o : Option A) → is_some o ≡ is_some (option_map f o)
+some-mapped f None = refl
+some-mapped f (Some a) = refl
+
 module _ (s : BareParts) (machine : MachineState) (outbox : OutboxState) (told : Told)
     (framed : machine ≡ record s.machine { further = machine.further })
     (is_told : Some told ≡ next_told (reports_in s.machine.further s.outbox.slots) s.outbox.untold)
     (lies : Lies machine.further outbox.slots (drop 1 (reports_in s.machine.further s.outbox.slots)))
     (untold : outbox.untold ≡ notice_left s.outbox.slots s.outbox.untold) where
   abbrev pub taken : BareParts
-  taken = record s { machine = machine; outbox = outbox; out = Some (record { told = told; taken = s.acks }) }
+  taken = record s { machine = machine; outbox = outbox; content = told; taken = Some s.acks }
 
   waiting-left : reports_in machine.further outbox.slots ≡ drop 1 (reports_in s.machine.further s.outbox.slots)
   waiting-left = reports-stored machine.further outbox.slots (drop 1 (reports_in s.machine.further s.outbox.slots)) lies.stored
@@ -152,7 +164,7 @@ module _ (s : BareParts) (machine : MachineState) (outbox : OutboxState) (told :
       })
       ∙ sym (ap (λ (o : Option (Told × (List Report × Option Notice))). with_told o (summary_by s)) (told-next s.machine.further s.outbox.slots s.outbox.untold told is_told))
 
-  pub is-taken : IsBare s → s.out ≡ None → can_tell (summary_by s) ≡ true
+  pub is-taken : IsBare s → out_by s ≡ None → can_tell (summary_by s) ≡ true
       → machine.further.words ≡ slot_words
       → free_of machine.further + length outbox.slots ≡ free_of s.machine.further + length s.outbox.slots
       → outbox.size ≡ s.outbox.size

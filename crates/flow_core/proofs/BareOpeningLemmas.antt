@@ -8,6 +8,7 @@ use Rattle.slot_pool.specs.Pool.{free_of}
 use Rattle.fold_machine.specs.MachineState.{MachineState}
 use Rattle.reg_code.specs.CodeStart.{declared_kept}
 use Rattle.agent_core.specs.Agents.{opening_change, values_of}
+use Rattle.ccp_base.specs.declared.exchange.Told.{Told}
 use Rattle.flow_core.specs.declared.bare.First.{First}
 use Rattle.flow_core.specs.declared.bare.BareParts.{BareParts}
 use Rattle.flow_core.specs.declared.case.Case.{Case}
@@ -18,7 +19,7 @@ use Rattle.flow_core.specs.Summaries.{summary}
 use Rattle.flow_core.specs.Bares.{reports_in, summary_by, InRange, IsBare, IsFirst}
 use Rattle.flow_core.proofs.ValueLemmas.{values-alike}
 
-module _ (case : Case) (made : First) (is : IsFirst case made) where
+module _ (case : Case) (made : First) (content : Told) (is : IsFirst case made) where
   abbrev pub opened : BareParts
   opened = record {
     case = case;
@@ -28,7 +29,8 @@ module _ (case : Case) (made : First) (is : IsFirst case made) where
     time = 0;
     outbox = made.outbox;
     agent = case.agent;
-    out = None;
+    content = content;
+    taken = None;
     answered = 0;
     told = 0;
     faults = 0;

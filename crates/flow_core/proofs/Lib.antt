@@ -16,6 +16,6 @@ pub mod SummaryLemmas
 pub mod BareLemmas
 pub mod BareAnswerLemmas
 pub mod BareOpeningLemmas
-pub mod JournalLemmas
+pub mod BookFlowLemmas
 pub mod CoreLemmas
 pub mod CellLemmas

@@ -1,7 +1,8 @@
 -- What a slot holds once a report was written over its words.
-use Rattle.std.proofs.Common.{◌≡◌, ℕ, ◌+◌, ◌≤◌, List, [], ◌∷◌, ◌++◌, length, take, drop, replicate, slice_set, Option, Some, option_map, refl, ap, sym, ◌∙◌, append_assoc, arith, length-append, length-drop}
+use Rattle.std.proofs.Common.{◌≡◌, ℕ, suc, None, unwrap_or, ◌+◌, ◌<◌, ◌≤◌, slice_index, drop-cons, List, [], ◌∷◌, ◌++◌, length, take, drop, replicate, slice_set, Option, Some, option_map, refl, ap, sym, ◌∙◌, append_assoc, arith, length-append, length-drop}
 use Rattle.std.proofs.Math.Seq.{set-append_seam, take-append_seam}
 use Rattle.std.proofs.lemmas.List.{append-nil, length-replicate}
+use Rattle.std.proofs.lemmas.Option.{none-some}
 use Rattle.ccp_base.specs.declared.exchange.Report.{Report}
 use Rattle.flow_core.specs.Outbox.{head_word_count, most_report_words, head_words, report_words, ReportFits}
 use Rattle.flow_core.specs.ReportWords.{written_over}
@@ -22,24 +23,41 @@ written_after (word ∷ words) front (x ∷ rest) at e fits =
     ∙ written_after words (front ++ word ∷ []) rest (at + 1) (omega (arith, e, length-append front (word ∷ []))) (omega (arith, fits))
     ∙ ap (λ xs. Some (xs ++ drop (length words) rest)) (append_assoc front (word ∷ []) words)
 
--- a slot of zeros over which the head of a report and then its fields are written
+-- words over which the head of a report and then its fields are written
+module _ (old : List ℕ) (report : Report) (head fields : List ℕ) (fresh headed written : Option (List ℕ)) where
+  pub written_report_over : most_report_words ≤ length old → ReportFits report → head ≡ head_words report → fields ≡ report.fields
+      → fresh ≡ Some old → headed ≡ written_over fresh 0 head → written ≡ written_over headed head_word_count fields
+      → option_map (take (length (report_words report))) written ≡ Some (report_words report)
+  written_report_over large range head_is fields_is holds first second =
+      let rest = drop head_word_count old in
+      let with_head : headed ≡ Some (head_words report ++ rest) =
+      first
+      ∙ ap (written_over fresh 0) head_is
+      ∙ ap (λ o. written_over o 0 (head_words report)) holds
+      ∙ written_after (head_words report) [] old 0 refl (omega (arith, large)) in
+      let room : length report.fields ≤ length rest = omega (arith, large, range.fields, length-drop head_word_count old) in
+      let with_fields : written ≡ Some (report_words report ++ drop (length report.fields) rest) =
+      second
+      ∙ ap (written_over headed head_word_count) fields_is
+      ∙ ap (λ o. written_over o head_word_count report.fields) with_head
+      ∙ written_after report.fields (head_words report) rest head_word_count refl room in
+      ap (option_map (take (length (report_words report)))) with_fields
+      ∙ ap Some (take-append_seam (report_words report) (drop (length report.fields) rest))
+
+-- a slot of zeros over which they are written
 pub written_report : (size : ℕ) (report : Report) (head fields : List ℕ) (fresh headed written : Option (List ℕ))
     → most_report_words ≤ size → ReportFits report → head ≡ head_words report → fields ≡ report.fields
     → fresh ≡ Some (replicate size 0) → headed ≡ written_over fresh 0 head → written ≡ written_over headed head_word_count fields
     → option_map (take (length (report_words report))) written ≡ Some (report_words report)
-written_report size report head fields fresh headed written large range head_is fields_is zeros first second =
-    let zeros_all : List ℕ = replicate size 0 in
-    let rest = drop head_word_count zeros_all in
-    let with_head : headed ≡ Some (head_words report ++ rest) =
-    first
-    ∙ ap (written_over fresh 0) head_is
-    ∙ ap (λ o. written_over o 0 (head_words report)) zeros
-    ∙ written_after (head_words report) [] zeros_all 0 refl (omega (arith, length-replicate {A = ℕ} size 0)) in
-    let room : length report.fields ≤ length rest = omega (arith, range.fields, length-drop head_word_count zeros_all, length-replicate {A = ℕ} size 0) in
-    let with_fields : written ≡ Some (report_words report ++ drop (length report.fields) rest) =
-    second
-    ∙ ap (written_over headed head_word_count) fields_is
-    ∙ ap (λ o. written_over o head_word_count report.fields) with_head
-    ∙ written_after report.fields (head_words report) rest head_word_count refl room in
-    ap (option_map (take (length (report_words report)))) with_fields
-    ∙ ap Some (take-append_seam (report_words report) (drop (length report.fields) rest))
+written_report size report head fields fresh headed written large =
+    written_report_over (replicate size 0) report head fields fresh headed written (omega (arith, large, length-replicate {A = ℕ} size 0))
+
+-- a slot as it was taken over which they are written
+pub written_report_as_is : (size : ℕ) (report : Report) (head fields : List ℕ) (fresh headed written : Option (List ℕ))
+    → most_report_words ≤ size → ReportFits report → head ≡ head_words report → fields ≡ report.fields
+    → option_map (λ (words : List ℕ). length words) fresh ≡ Some size → headed ≡ written_over fresh 0 head → written ≡ written_over headed head_word_count fields
+    → option_map (take (length (report_words report))) written ≡ Some (report_words report)
+written_report_as_is size report head fields None headed written large range head_is fields_is holds = absurd (none-some size holds)
+written_report_as_is size report head fields (Some old) headed written large range head_is fields_is holds =
+    let long : length old ≡ size = ap (λ (o : Option ℕ). unwrap_or o 0) holds in
+    written_report_over old report head fields (Some old) headed written (omega (arith, large, long)) range head_is fields_is refl

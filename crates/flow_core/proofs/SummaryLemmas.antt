@@ -15,11 +15,11 @@ use Rattle.flow_core.specs.declared.letter.Letter.{Letter}
 use Rattle.flow_core.specs.declared.letter.Letter.TheVariants.{A, T, C}
 use Rattle.flow_core.specs.Readings.{Flow}
 use Rattle.flow_core.specs.World.{Failure, Taken, Answered, World, track_of, time_of, failures_met, untold_after, has_room, after_ack, takeable, with_taken, after_take, with_reply, notice_of, told_as, with_turn, answer_applied, after_answer}
-use Rattle.flow_core.specs.Words.{is_legal, is_complete}
+use Rattle.flow_core.specs.Words.{is_legal, is_still, is_complete}
 use Rattle.flow_core.specs.Books.{ticket_line}
 use Rattle.flow_core.specs.LiveText.{reports_told, report_count}
 use Rattle.flow_core.specs.States.{issued_as}
-use Rattle.flow_core.specs.Summaries.{summary, notice_after, step_ack, next_telling, with_told, step_take, step_reply, step_turn, step_out, step_answer, may_make, is_done}
+use Rattle.flow_core.specs.Summaries.{summary, notice_after, step_ack, next_telling, with_told, step_take, step_reply, step_turn, step_out, step_answer, may_make, is_idle, is_done}
 use Rattle.flow_core.proofs.MappedLemmas.{some-mapped, none-mapped}
 
 -- the time of the last one of a list
@@ -81,7 +81,7 @@ module _ {X : Type 0} (flow : Flow X) where
       let next = with_reply flow agent (Change program cwnd cap) w in
       λ i. record (summary flow next) { epoch = length-append w.past (w.present ∷ []) i }
 
-  summary-turned : (ticket : Taken X) (turn : Agent × Reply) (w : World X)
+  pub summary-turned : (ticket : Taken X) (turn : Agent × Reply) (w : World X)
       → summary flow (with_turn flow ticket turn w) ≡ step_turn flow (issued_as flow ticket) turn (summary flow w)
   summary-turned ticket turn w =
       let line : Answered X = record { told = ticket.told; taken = ticket.taken; answered = length w.acks; reply = turn.1 } in
@@ -113,5 +113,8 @@ module _ {X : Type 0} (flow : Flow X) where
   summary-legal T w = λ i. none-mapped (issued_as flow) w.out i && can-told w.waiting w.untold i
   summary-legal C w = some-mapped (issued_as flow) w.out
 
+  pub summary-still : (w : World X) → is_still w ≡ is_idle (summary flow w)
+  summary-still w = λ i. none-mapped (issued_as flow) w.out i && not (can-told w.waiting w.untold i)
+
   pub summary-complete : (w : World X) → is_complete flow w ≡ is_done flow (summary flow w)
-  summary-complete w = λ i. not (nat_lt (length w.acks) flow.acks) && (none-mapped (issued_as flow) w.out i && not (can-told w.waiting w.untold i))
+  summary-complete w = λ i. not (nat_lt (length w.acks) flow.acks) && summary-still w i

@@ -37,6 +37,10 @@ abbrev pub reports_in : PoolState → List ℕ → List Report
 reports_in pool [] = []
 reports_in pool (slot ∷ rest) = report_in (unwrap_or (words_at pool slot) []) ∷ reports_in pool rest
 
+-- the ticket that is out, if one is: what the last one told, and when it was taken
+abbrev pub out_by : BareParts → Option Issued
+out_by s = option_map (λ taken. record { told = s.content; taken = taken }) s.taken
+
 -- the summary that is kept
 abbrev pub summary_by : BareParts → Summary
 summary_by s = record {
@@ -53,7 +57,7 @@ summary_by s = record {
   waiting = reports_in s.machine.further s.outbox.slots;
   untold = s.outbox.untold;
   agent = s.agent;
-  out = s.out;
+  out = out_by s;
   answered = s.answered;
   told = s.told;
   faults = s.faults;
@@ -153,7 +157,7 @@ instructions_at case ack s =
 abbrev pub closed_parts : Agent → ℕ → BareParts → BareParts
 closed_parts after reports s = record s {
   agent = after;
-  out = None;
+  taken = None;
   answered = s.answered + 1;
   told = s.told + reports;
 }

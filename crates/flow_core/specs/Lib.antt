@@ -18,6 +18,7 @@ pub mod LettersLeft
 pub mod Summaries
 pub mod SummaryLaw
 pub mod Bares
+pub mod BookFlows
 -- those that only private contracts, invariants and proofs cite
 pub mod ReportWords
 pub mod WordLaws

@@ -32,3 +32,7 @@ report_in words = record {
   rate = slice_index words 7;
   fields = take (min (slice_index words 8) most_fields) (drop head_word_count words);
 }
+
+-- a report with these fields in the place of its own
+abbrev pub with_fields : List ℕ → Report → Report
+with_fields fields report = record report { fields = fields }

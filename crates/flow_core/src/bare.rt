@@ -14,19 +14,19 @@ ghost use Rattle.flow_core.specs.States.{outcome_by};
 ghost use Rattle.flow_core.specs.Summaries.{summary, step_ack, step_take, step_answer, outcome_at};
 ghost use Rattle.flow_core.specs.Summaries.{can_tell, may_make, is_idle, is_done};
 ghost use Rattle.flow_core.specs.Bares.{IsFirst, AreGood, InRange, closed_parts, UpdatesBare, ChangesBare, ObeysBare};
-ghost use Rattle.flow_core.specs.Bares.{summary_by, told_ticket, instructions_at, IsBare, CanNote, HasSpace, NotesBare};
-ghost use Rattle.flow_core.specs.Journals.{begun_line};
+ghost use Rattle.flow_core.specs.Bares.{out_by, summary_by, told_ticket, instructions_at, IsBare, CanNote, HasSpace, NotesBare};
+ghost use Rattle.flow_core.specs.BookFlows.{begun_line};
 ghost use Rattle.flow_core.specs.ReadsRates.{case_reads_rates};
 ghost use Rattle.link_model.specs.Rated.{rated};
 
 use crate::book::EpochLine;
 use crate::case::Case;
 use crate::letter::Letter;
-use crate::machine_calls::{pop_told, put_report, run};
+use crate::machine_calls::{pop_content, put_last_report, run};
 use crate::opening::opening_machine;
 use crate::outbox::Outbox;
 use agent_core::{Agent, Answer, Ticket};
-use ccp_base::{Ack, FaultKind, FieldReg, Fields, NoMemory, Notice, Reply, RunningEpoch, Told};
+use ccp_base::{Ack, FaultKind, NoMemory, Notice, Reply, Report, RunningEpoch, Told, Values};
 use fold_machine::{Acked, Machine, Steps};
 use std::alloc::Global;
 use std::marker::{Brand, Model};
@@ -52,7 +52,11 @@ pub(crate) struct BareParts {
     pub(crate) time: u64,
     pub(crate) outbox: Outbox,
     pub(crate) agent: Agent,
-    pub(crate) out: Option<Issued>,
+    // A place that stays, and that each ticket fills: its content is large, so moving it costs more than reading it.
+    /// What the last ticket told; a report of nothing until there is one.
+    pub(crate) content: Told,
+    /// At how many acknowledgements the ticket that is out was taken; None if none is out.
+    pub(crate) taken: Option<u32>,
     /// How many tickets were answered.
     pub(crate) answered: u32,
     /// How many of them had a report.
@@ -121,7 +125,8 @@ impl BareParts {
             time: 0,
             outbox: first.outbox,
             agent,
-            out: None,
+            content: Told::Report(no_report()),
+            taken: None,
             answered: 0,
             told: 0,
             faults: 0,
@@ -132,7 +137,7 @@ impl BareParts {
     /// Takes the oldest report, or else the notice, as a ticket. One must be there, and no ticket may be out.
     pub(crate) fn take(&mut self) -> Ticket
         requires parts { IsBare self.old }
-        requires none_out { self.old.out ≡ None }
+        requires none_out { out_by self.old ≡ None }
         requires some { can_tell (summary_by self.old) ≡ true }
         ensures parts { IsBare self.new }
         ensures case { self.new.case ≡ self.old.case }
@@ -140,27 +145,22 @@ impl BareParts {
         ensures ticket { told_ticket self.old.case (summary_by self.new) ≡ Some result }
     {
         self.issue();
-        let Some(issued) = self.out.as_ref() else {
-            unreachable!()
-        };
-        self.ticket(&issued.told)
+        self.ticket()
     }
 
     /// As `take`, without the ticket.
     fn issue(&mut self)
         requires parts { IsBare self.old }
-        requires none_out { self.old.out ≡ None }
+        requires none_out { out_by self.old ≡ None }
         requires some { can_tell (summary_by self.old) ≡ true }
         ensures parts { IsBare self.new }
         ensures case { self.new.case ≡ self.old.case }
         ensures step { summary_by self.new ≡ step_take (summary_by self.old) }
-        ensures out { is_some self.new.out ≡ true }
+        ensures out { self.new.taken ≡ Some self.new.acks }
     {
-        let Some(told) = pop_told(&mut self.machine, &mut self.outbox) else {
-            unreachable!()
-        };
+        pop_content(&mut self.machine, &mut self.outbox, &mut self.content);
         let taken = self.acks;
-        self.out = Some(Issued { told, taken });
+        self.taken = Some(taken);
     }
 
     /// Takes an acknowledgement. One must be left.
@@ -224,12 +224,14 @@ impl BareParts {
         ensures { NotesBare self.old self.new ack.entry.now (reported self.old.machine.report) }
     {
         let flow = self.case.flow;
-        let fields = self.machine.reported();
         let cwnd = self.machine.cwnd();
         let rate = self.machine.rate();
         let end = u64::from(self.acks) + 1;
-        let report = self.epoch.report(flow, end, ack.now, cwnd, rate, &fields);
-        put_report(&mut self.machine, &mut self.outbox, &report);
+        // without the fields, which go from the machine to the slot
+        let report = self
+            .epoch
+            .report(flow, end, ack.now, cwnd, rate, &Values::new());
+        put_last_report(&mut self.machine, &mut self.outbox, &report);
     }
 
     /// Records a fault of this kind at the instruction with this index.
@@ -261,17 +263,14 @@ impl BareParts {
     /// Has the agent answer the ticket that is out, and applies its answer.
     fn consult(&mut self)
         requires parts { IsBare self.old }
-        requires out { is_some self.old.out ≡ true }
+        requires out { is_some (out_by self.old) ≡ true }
         ensures parts { IsBare self.new }
         ensures case { self.new.case ≡ self.old.case }
         ensures step { summary_by self.new ≡ step_answer (over_codes self.old.case) (summary_by self.old) }
     {
-        let Some(issued) = self.out.as_ref() else {
-            unreachable!()
-        };
         let mut after = self.agent;
-        let reply = after.reply(&issued.told);
-        let reports = reports_told(&issued.told);
+        let reply = after.reply(&self.content);
+        let reports = reports_told(&self.content);
         self.apply_reply(&reply);
         self.record_answer(&after, reports);
     }
@@ -284,7 +283,7 @@ impl BareParts {
         ensures { self.new ≡ closed_parts after.now reports self.old }
     {
         self.agent = *after;
-        self.out = None;
+        self.taken = None;
         self.answered += 1;
         self.told += reports;
     }
@@ -303,19 +302,12 @@ impl BareParts {
         }
     }
 
-    // A function of its own: few replies call it, and it has a list of values in its frame.
     /// Writes the window of an update, in bytes.
-    #[inline(never)]
     fn set_window(&mut self, cwnd: u64)
         requires { Fits self.old.machine (code_at self.old.case self.old.epoch.program) }
         ensures { UpdatesBare self.old self.new (window_pair cwnd) }
     {
-        let mut values = Fields::new();
-        values.push(FieldReg::Cwnd, cwnd);
-        let code = self.case.code(self.epoch.program);
-        let Ok(()) = self.machine.update(code, &values) else {
-            unreachable!()
-        };
+        self.machine.set_cwnd(cwnd);
     }
 
     // A function of its own: few replies call it, and it has a list of values in its frame.
@@ -344,21 +336,43 @@ impl BareParts {
         !self.outbox.is_empty()
     }
 
-    /// The ticket that tells this.
-    fn ticket(&self, told: &Told) -> Ticket
+    /// Whether a ticket is out.
+    fn has_out(&self) -> bool
+        ensures { result ≡ is_some (out_by self.now) }
+    {
+        self.taken.is_some()
+    }
+
+    /// The ticket that tells the content.
+    fn ticket(&self) -> Ticket
         ensures { result ≡ record {
           flow = self.now.case.flow;
           number = self.now.answered;
           before = self.now.agent;
-          told = told.now;
+          told = self.now.content;
         } }
     {
         Ticket {
             flow: self.case.flow,
             number: self.answered,
             before: self.agent,
-            told: *told,
+            told: self.content,
         }
+    }
+}
+
+/// A report of nothing.
+fn no_report() -> Report {
+    Report {
+        flow: 0,
+        program: 0,
+        epoch: 0,
+        first: 0,
+        end: 0,
+        now: 0,
+        cwnd: 0,
+        rate: 0,
+        fields: Values::new(),
     }
 }
 
@@ -509,32 +523,30 @@ impl Bare {
     pub fn has_out(&self) -> bool
         ensures { result ≡ may_make (over_codes self.now.case) self.now.summary Letter.C }
     {
-        self.parts.out.is_some()
+        self.parts.has_out()
     }
 
     /// At how many acknowledgements the ticket that is out was taken, if one is out.
     pub fn taken(&self) -> Option<u32>
         ensures { result ≡ option_map (λ issued. issued.taken) self.now.summary.out }
     {
-        let issued = self.parts.out.as_ref()?;
-        Some(issued.taken)
+        let taken = self.parts.taken?;
+        Some(taken)
     }
 
     /// The ticket that is out, if one is.
     pub fn out(&self) -> Option<Ticket>
         ensures { result ≡ told_ticket self.now.case self.now.summary }
     {
-        let issued = self.parts.out.as_ref()?;
-        Some(self.parts.ticket(&issued.told))
+        self.parts.taken?;
+        Some(self.parts.ticket())
     }
 
     /// The number of the ticket that is out, if one is.
     pub fn out_number(&self) -> Option<u32>
         ensures { result ≡ option_map (λ ticket. ticket.number) (told_ticket self.now.case self.now.summary) }
     {
-        if self.parts.out.is_none() {
-            return None;
-        }
+        self.parts.taken?;
         Some(self.parts.answered)
     }
 
@@ -542,7 +554,7 @@ impl Bare {
     pub fn is_idle(&self) -> bool
         ensures { result ≡ is_idle self.now.summary }
     {
-        self.parts.out.is_none() && !self.parts.can_take()
+        !self.parts.has_out() && !self.parts.can_take()
     }
 
     /// Whether all acknowledgements are in, nothing can be taken and no ticket is out.
@@ -552,14 +564,14 @@ impl Bare {
         if self.parts.acks < self.parts.case.acks {
             return false;
         }
-        self.parts.out.is_none() && !self.parts.can_take()
+        !self.parts.has_out() && !self.parts.can_take()
     }
 
     /// Whether a ticket may be taken: none is out, and a report waits or a notice is untold.
     pub fn may_take(&self) -> bool
         ensures { result ≡ may_make (over_codes self.now.case) self.now.summary Letter.T }
     {
-        self.parts.out.is_none() && self.parts.can_take()
+        !self.parts.has_out() && self.parts.can_take()
     }
 
     /// Takes the oldest report, or else the notice, as a ticket.

@@ -82,16 +82,16 @@ fn same_instr(this: &Instr, other: &Instr) -> bool
 fn same_code(this: &Code, other: &Code) -> bool
     ensures { IsTrue result ↔ (this.now ≡ other.now) }
 {
-    if !same_starts(this.reports.as_slice(), other.reports.as_slice()) {
+    if !same_starts(this.reports(), other.reports()) {
         return false;
     }
-    if !same_starts(this.controls.as_slice(), other.controls.as_slice()) {
+    if !same_starts(this.controls(), other.controls()) {
         return false;
     }
-    if !same_events(this.events.as_slice(), other.events.as_slice()) {
+    if !same_events(this.events(), other.events()) {
         return false;
     }
-    same_instrs(this.instrs.as_slice(), other.instrs.as_slice())
+    same_instrs(this.instrs(), other.instrs())
 }
 
 // A function of its own: its proof shows that programs with one code are equal, which `same` takes from the clause.

@@ -6,18 +6,18 @@ ghost use Rattle.flow_core.specs.World.{track_of, after_take, after_answer};
 ghost use Rattle.flow_core.specs.Words.{is_still, is_legal, legal_over};
 ghost use Rattle.flow_core.specs.Books.{IsBookOf};
 ghost use Rattle.flow_core.specs.Summaries.{summary};
-ghost use Rattle.flow_core.specs.Journals.{new_notice, taken_at, line_after};
 ghost use Rattle.flow_core.specs.Cores.{flow_in, world_in, with_ack, heard_in, acked_with, ran_in, out_in, out_number};
 
 use crate::bare::Bare;
-use crate::book::{Book, EpochLine, Given};
+use crate::book::Given;
+use crate::book_flow::BookFlow;
 use crate::case::Case;
-use crate::journal::Journal;
 use crate::letter::Letter;
+use crate::reserved_list::ReservedList;
 use agent_core::{Answer, Ticket};
-use ccp_base::{Ack, NoMemory, Notice};
+use ccp_base::{Ack, NoMemory};
 use fold_machine::{Acked, Steps};
-use std::alloc::{AllocError, Global};
+use std::alloc::Global;
 use std::marker::{Brand, Model};
 use std::sync::ledger::{Blank, Ledger};
 
@@ -53,11 +53,11 @@ pub struct Stale {
     pub out: Option<u32>,
 }
 
-/// A flow without its link: it is given each acknowledgement.
+/// A flow without its link: it is given each acknowledgement, and keeps them all.
 #[derive(Drop)]
 pub struct Core {
-    bare: Bare,
-    journal: Journal,
+    flow: BookFlow,
+    acks: ReservedList<Ack>,
 }
 
 impl Model for Core {
@@ -65,44 +65,11 @@ impl Model for Core {
 
     ghost Value = { CoreState };
 
-    ghost use Rattle.flow_core.specs.Summaries.{summary};
     ghost use Rattle.flow_core.specs.Journals.{IsCore};
 
-    ghost view = { λ c. record { case = c.bare.case; acks = c.journal.acks.items; word = c.journal.word.items } };
+    ghost view = { λ c. record { case = c.flow.bare.case; acks = c.acks.items; word = c.flow.word } };
 
-    ghost invariant = { λ c. IsCore c.bare c.journal };
-}
-
-// A function of its own: the proof of `ack` cites its clause, in place of a case for each answer.
-/// The notice of an acknowledgement's fault, by the machine's answer and the untold notice after it; None if it had no
-/// fault.
-fn new_notice(acked: Acked, untold: Option<Notice>) -> Option<Notice>
-    ensures { result ≡ new_notice acked untold }
-{
-    match acked {
-        Acked::Faulted(_, _) => untold,
-        Acked::Quiet | Acked::Reported | Acked::Held | Acked::Stopped => None,
-    }
-}
-
-// A function of its own: the proof of `apply` cites its clause.
-/// At how many acknowledgements the ticket that is out was taken, 0 if none is out.
-fn taken_at(bare: &Bare) -> u32
-    ensures { result ≡ taken_at bare.now.summary }
-{
-    bare.taken().unwrap_or(0)
-}
-
-// A function of its own: the proof of `apply` cites its clause, in place of a case for each branch.
-/// The line of the epoch that began after the one with this number, if one did.
-fn line_after(epoch: u32, bare: &Bare) -> Option<EpochLine>
-    ensures { result ≡ line_after epoch bare.now.summary }
-{
-    if epoch < bare.epoch() {
-        Some(bare.begun_line())
-    } else {
-        None
-    }
+    ghost invariant = { λ c. IsCore c.flow c.acks };
 }
 
 impl Core {
@@ -111,11 +78,11 @@ impl Core {
     pub fn new(alloc: Global, case: Case) -> Result<Core, NoMemory>
         ensures { IfOk result (λ core. core ≡ record { case = case; acks = []; word = [] }) }
     {
-        let bare = Bare::new(alloc, case)?;
-        match Journal::open(alloc, bare.case().acks, bare.begun_line()) {
-            Ok(journal) => Ok(Core { bare, journal }),
+        let flow = BookFlow::new(alloc, case)?;
+        match ReservedList::with_room(alloc, flow.bare().case().acks as usize) {
+            Ok(acks) => Ok(Core { flow, acks }),
             Err(fault) => {
-                drop(bare);
+                drop(flow);
                 Err(fault)
             }
         }
@@ -132,13 +99,11 @@ impl Core {
         ensures unchanged { OnErr result (self.new ≡ self.old) }
         ensures idle { OnErr result (steps.new ≡ steps.old) }
     {
-        self.bare.range();
-        if self.bare.acks() >= self.bare.case().acks {
+        if self.acks() >= self.case().acks {
             return Err(Ended);
         }
-        let acked = self.bare.ack(ack, steps);
-        let fault = new_notice(acked, self.bare.untold());
-        self.journal.put_ack(ack, fault);
+        let acked = self.flow.ack(ack, steps);
+        self.acks.push(*ack);
         Ok(acked)
     }
 
@@ -172,7 +137,7 @@ impl Core {
     /// Takes the oldest report, or else the untold fault notice, as a ticket. NotYet if and only if no ticket is out
     /// and nothing can be taken, Out if and only if that ticket is out; nothing changes then, nor if memory runs out.
     /// What the answer's settling needs is reserved here.
-    pub fn take(&mut self, _alloc: Global) -> Result<Ticket, TakeFault>
+    pub fn take(&mut self, alloc: Global) -> Result<Ticket, TakeFault>
         ensures not_yet { (result ≡ Err TakeFault.NotYet) ↔ (is_still (world_in self.old) ≡ true) }
         ensures out { (n : ℕ) → (result ≡ Err (TakeFault.Out n)) ↔ (out_number self.old ≡ Some n) }
         ensures ok { OnOk result (self.new ≡ record self.old { word = self.old.word ++ Letter.T ∷ [] }) }
@@ -180,16 +145,13 @@ impl Core {
         ensures ticket { IfOk result (λ ticket. out_in self.new ≡ Some ticket) }
         ensures unchanged { OnErr result (self.new ≡ self.old) }
     {
-        if let Some(number) = self.bare.out_number() {
+        if let Some(number) = self.bare().out_number() {
             return Err(TakeFault::Out(number));
         }
-        if !self.bare.may_take() {
+        if !self.may_take() {
             return Err(TakeFault::NotYet);
         }
-        self.bare.range();
-        self.journal.reserve_lines()?;
-        let ticket = self.bare.take();
-        self.journal.put_take();
+        let ticket = self.flow.take(alloc)?;
         Ok(ticket)
     }
 
@@ -219,48 +181,42 @@ impl Core {
         ensures ok { self.new ≡ record self.old { word = self.old.word ++ Letter.C ∷ [] } }
         ensures world { world_in self.new ≡ after_answer (flow_in self.old) (world_in self.old) }
     {
-        self.bare.range();
-        let taken = taken_at(&self.bare);
-        let answered = self.bare.acks();
-        let epoch = self.bare.epoch();
-        self.bare.settle(answer);
-        let begun = line_after(epoch, &self.bare);
-        self.journal.put_answer(answer, taken, answered, begun);
+        self.flow.settle(answer);
     }
 
     /// The ticket that is out, if one is.
     pub fn out(&self) -> Option<Ticket>
         ensures { result ≡ out_in self.now }
     {
-        self.bare.out()
+        self.bare().out()
     }
 
     /// Whether a ticket is out.
     pub fn has_out(&self) -> bool
         ensures { result ≡ is_legal (flow_in self.now) (world_in self.now) Letter.C }
     {
-        self.bare.has_out()
+        self.bare().has_out()
     }
 
     /// Whether a ticket may be taken: none is out, and a report waits or a notice is untold.
     pub fn may_take(&self) -> bool
         ensures { result ≡ is_legal (flow_in self.now) (world_in self.now) Letter.T }
     {
-        self.bare.may_take()
+        self.bare().may_take()
     }
 
     /// The present congestion window, in bytes.
     pub fn cwnd(&self) -> u64
         ensures { result ≡ (track_of (flow_in self.now) (world_in self.now)).env.cwnd }
     {
-        self.bare.cwnd()
+        self.bare().cwnd()
     }
 
     /// How many acknowledgements are in.
     pub fn acks(&self) -> u32
         ensures { result ≡ length self.now.acks }
     {
-        self.bare.acks()
+        self.flow.bare().acks()
     }
 
     /// What later letters depend on.
@@ -268,7 +224,7 @@ impl Core {
         ensures case { result.now.case ≡ self.now.case }
         ensures summary { result.now.summary ≡ summary (flow_in self.now) (world_in self.now) }
     {
-        &self.bare
+        self.flow.bare()
     }
 
     /// The acknowledgements that the flow was given, in order. Its letters take all of them.
@@ -276,28 +232,28 @@ impl Core {
         ensures given { result.now ≡ self.now.acks }
         ensures taken { (world_in self.now).acks ≡ self.now.acks }
     {
-        self.journal.acks.as_slice()
+        self.acks.as_slice()
     }
 
     /// The last acknowledgement, if there is one.
     pub fn last(&self) -> Option<Ack>
         ensures { result ≡ slice_get self.now.acks (length self.now.acks - 1) }
     {
-        self.journal.acks.last().copied()
+        self.acks.last().copied()
     }
 
     /// How many reports wait.
     pub fn waiting(&self) -> u32
         ensures { result ≡ length (world_in self.now).waiting }
     {
-        self.bare.waiting()
+        self.bare().waiting()
     }
 
     /// Whether no ticket is out and nothing can be taken.
     pub fn is_still(&self) -> bool
         ensures { result ≡ is_still (world_in self.now) }
     {
-        self.bare.is_idle()
+        self.bare().is_idle()
     }
 
     /// The flow's case, for which each letter of the word is legal at its point.
@@ -305,7 +261,7 @@ impl Core {
         ensures case { result.now ≡ self.now.case }
         ensures legal { legal_over (flow_in self.now) self.now.acks self.now.word ≡ true }
     {
-        self.bare.case()
+        self.flow.bare().case()
     }
 
     /// The result of the history. No ticket may be out, and nothing may be left to take.
@@ -317,22 +273,8 @@ impl Core {
         ensures legal { legal_over (flow_in self) self.acks self.word ≡ true }
         ensures book { IsBookOf (flow_in self) (world_in self) result.book }
     {
-        let held = self.bare.held();
-        let first = self.bare.first();
-        let journal = self.journal;
-        let (case, machine) = self.bare.into_parts();
-        Given {
-            book: Book {
-                case,
-                word: journal.word.into_sequence(),
-                tickets: journal.tickets.into_sequence(),
-                epochs: journal.epochs.into_sequence(),
-                faults: journal.faults.into_sequence(),
-                held,
-                first,
-                machine,
-            },
-            acks: journal.acks.into_sequence(),
-        }
+        let book = self.flow.finish();
+        let acks = self.acks.into_sequence();
+        Given { book, acks }
     }
 }

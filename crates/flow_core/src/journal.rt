@@ -1,4 +1,4 @@
-//! The history of a flow, as lists that each letter makes longer.
+//! What a flow's book has of its history, as lists that each letter makes longer.
 ghost use Rattle.std.specs.Prelude.{◌≡◌, ◌<◌, length, IfOk, OnOk};
 ghost use Rattle.flow_core.specs.Journals.{OpensJournal, HasSpareRoom, HaveLineRoom, journal_ack, journal_take};
 ghost use Rattle.flow_core.specs.Journals.{journal_answer, journal_line};
@@ -7,10 +7,10 @@ use crate::book::{EpochLine, TicketLine};
 use crate::letter::Letter;
 use crate::reserved_list::ReservedList;
 use agent_core::Answer;
-use ccp_base::{Ack, NoMemory, Notice};
+use ccp_base::{NoMemory, Notice};
 use std::alloc::Global;
 
-/// What no later letter depends on.
+/// What no later letter depends on, but for the acknowledgements.
 #[derive(Drop)]
 pub(crate) struct Journal {
     /// The tickets that were answered.
@@ -18,13 +18,12 @@ pub(crate) struct Journal {
     /// The epochs, the present one last.
     pub(crate) epochs: ReservedList<EpochLine>,
     pub(crate) faults: ReservedList<Notice>,
-    pub(crate) acks: ReservedList<Ack>,
     pub(crate) word: ReservedList<Letter>,
 }
 
 impl Journal {
-    /// The journal of a flow without a letter, whose first epoch this is. Room for every acknowledgement, for a fault
-    /// and three letters each, is reserved here.
+    /// The journal of a flow without a letter, whose first epoch this is. Room for a fault and three letters for every
+    /// acknowledgement is reserved here.
     pub(crate) fn open(alloc: Global, acks: u32, epoch: EpochLine) -> Result<Journal, NoMemory>
         ensures { IfOk result (OpensJournal acks epoch) }
     {
@@ -33,7 +32,6 @@ impl Journal {
             tickets: ReservedList::with_room(alloc, 0)?,
             epochs: ReservedList::with_room(alloc, 1)?,
             faults: ReservedList::with_room(alloc, acks)?,
-            acks: ReservedList::with_room(alloc, acks)?,
             word: ReservedList::with_room(alloc, 3 * acks)?,
         };
         journal.epochs.push(epoch);
@@ -52,17 +50,15 @@ impl Journal {
         Ok(())
     }
 
-    /// Records an acknowledgement, and its fault, if it had one.
-    pub(crate) fn put_ack(&mut self, ack: &Ack, fault: Option<Notice>)
+    /// Records that an acknowledgement came, and its fault, if it had one.
+    pub(crate) fn put_ack(&mut self, fault: Option<Notice>)
         requires faults { HasSpareRoom self.old.faults }
-        requires acks { HasSpareRoom self.old.acks }
         requires word { HasSpareRoom self.old.word }
-        ensures { self.new ≡ journal_ack ack.entry.now fault self.old }
+        ensures { self.new ≡ journal_ack fault self.old }
     {
         if let Some(notice) = fault {
             self.faults.push(notice);
         }
-        self.acks.push(*ack);
         self.word.push(Letter::A);
     }
 

@@ -3,10 +3,13 @@
 
 mod bare;
 mod book;
+mod book_flow;
 mod case;
 mod cell;
+mod content;
 mod cores;
 mod journal;
+mod last_report;
 mod laws;
 mod letter;
 mod machine_calls;
@@ -18,6 +21,7 @@ mod reserved_list;
 
 pub use bare::{Bare, Issued};
 pub use book::{Book, EpochLine, Given, TicketLine};
+pub use book_flow::BookFlow;
 pub use case::{Case, Coded};
 pub use cell::Cell;
 pub use cores::{Core, Ended, Stale, TakeFault};

@@ -1,13 +1,15 @@
 //! The machine's calls as a flow makes them, with the clauses that a flow's proofs cite.
-ghost use Rattle.std.specs.Prelude.{◌≡◌, ◌+◌, ◌<◌, ◌↔◌, [], length, IsNone, None};
+ghost use Rattle.std.specs.Prelude.{◌≡◌, ◌+◌, ◌<◌, [], length, None, Some};
 ghost use Rattle.portus_core.specs.Epoch.{stops};
 ghost use Rattle.fold_machine.specs.MachineState.{Fits};
 ghost use Rattle.fold_machine.specs.Store.{slot_words};
 ghost use Rattle.slot_pool.specs.Pool.{free_of};
 ghost use Rattle.flow_core.specs.MachineCalls.{heard_on, outcome_and_env, ran_on};
 ghost use Rattle.flow_core.specs.Outbox.{AreOwned, AreAsMany, Gains, LosesFirst, IsToldNext, notice_left};
+ghost use Rattle.flow_core.specs.ReportWords.{with_fields};
 ghost use Rattle.flow_core.specs.States.{outcome_by};
 
+use crate::last_report::store_last;
 use crate::outbox::Outbox;
 use ccp_base::{Ack, Report, Told};
 use fold_machine::{Acked, Machine, Steps};
@@ -34,30 +36,32 @@ pub(crate) fn run<L: Ledger>(
     machine.ack(code, ack, room, steps)
 }
 
-// A function of its own: here the slots are a machine, and its clauses say what changes of that.
-/// Puts a report at the outbox's end, into one of the machine's further slots.
-pub(crate) fn put_report(machine: &mut Machine, outbox: &mut Outbox, report: &Report)
+/// Puts a report at the outbox's end, into one of the machine's further slots. Its fields are those of the machine's last
+/// report; `report` has the other numbers.
+#[inline(always)]
+pub(crate) fn put_last_report(machine: &mut Machine, outbox: &mut Outbox, report: &Report)
     requires room { length outbox.old.slots < outbox.old.size }
     requires free { 0 < free_of machine.old.further }
     requires words { machine.old.further.words ≡ slot_words }
-    requires owned { AreOwned machine.old.further outbox.old.slots }
     ensures machine { machine.new ≡ record machine.old { further = machine.new.further } }
     ensures words { machine.new.further.words ≡ slot_words }
     ensures as_many { AreAsMany machine.old.further outbox.old.slots machine.new.further outbox.new.slots }
-    ensures gained { Gains report.entry.now machine.old.further outbox.old.slots machine.new.further outbox.new.slots }
+    ensures gained { Gains (with_fields machine.old.report report.entry.now)
+        machine.old.further outbox.old.slots machine.new.further outbox.new.slots }
     ensures untold { outbox.new.untold ≡ outbox.old.untold }
     ensures size { outbox.new.size ≡ outbox.old.size }
 {
-    outbox.push(machine, report);
+    let slot = store_last(machine, report);
+    outbox.push_slot(slot);
 }
 
 // A function of its own: here the slots are a machine, and its clauses say what changes of that.
-/// Takes out what the next ticket has.
-pub(crate) fn pop_told(machine: &mut Machine, outbox: &mut Outbox) -> Option<Told>
+/// Takes out what the next ticket has, into the place of a ticket's content. A report must wait, or the notice be untold.
+pub(crate) fn pop_content(machine: &mut Machine, outbox: &mut Outbox, content: &mut Told)
+    requires some { (outbox.old.slots ≡ []) × (outbox.old.untold ≡ None) → ⊥ }
     requires words { machine.old.further.words ≡ slot_words }
     requires owned { AreOwned machine.old.further outbox.old.slots }
-    ensures told { IsToldNext result outbox.old.untold machine.old.further outbox.old.slots }
-    ensures none { IsNone result ↔ ((outbox.old.slots ≡ []) × (outbox.old.untold ≡ None)) }
+    ensures told { IsToldNext (Some content.new) outbox.old.untold machine.old.further outbox.old.slots }
     ensures machine { machine.new ≡ record machine.old { further = machine.new.further } }
     ensures words { machine.new.further.words ≡ slot_words }
     ensures as_many { AreAsMany machine.old.further outbox.old.slots machine.new.further outbox.new.slots }
@@ -65,5 +69,5 @@ pub(crate) fn pop_told(machine: &mut Machine, outbox: &mut Outbox) -> Option<Tol
     ensures untold { outbox.new.untold ≡ notice_left outbox.old.slots outbox.old.untold }
     ensures size { outbox.new.size ≡ outbox.old.size }
 {
-    outbox.pop(machine)
+    outbox.pop_into(machine, content);
 }

@@ -1,12 +1,13 @@
 //! The outbox of a flow: reports that wait in slots of a pool, and at most one fault notice.
 ghost use Rattle.std.specs.Prelude.{◌≡◌, ◌+◌, ◌<◌, ◌≤◌, ◌↔◌, nat_lt, List, [], ◌∷◌, ◌++◌, length, drop, None, Some};
-ghost use Rattle.std.specs.Prelude.{IsNone, IsTrue, IfOk};
+ghost use Rattle.std.specs.Prelude.{IsNone, IsSome, IsTrue, IfOk, option_map};
 ghost use Rattle.ccp_base.specs.Limits.{most_slots};
 ghost use Rattle.ccp_base.specs.declared.exchange.Report.{Report};
 ghost use Rattle.slot_pool.specs.Pool.{words_at, free_of, ChangesSlot};
 ghost use Rattle.flow_core.specs.Outbox.{empty_outbox, most_report_words, AreOwned, AreWide, AreAsMany, Gains};
 ghost use Rattle.flow_core.specs.Outbox.{LosesFirst, ChangesOnly, newest, GivesFirst, IsToldNext, notice_left};
 
+use crate::content::take_content;
 use crate::report_words::{store, take_report};
 use ccp_base::{NoMemory, Notice, Report, Told};
 use circular_buffer::HeapCircularBuffer;
@@ -121,6 +122,49 @@ impl Outbox {
         }
         let notice = self.untold.take()?;
         Some(Told::Fault(notice))
+    }
+
+    // A ticket's content is large, and a flow makes one for each report: it is put where it stays.
+    /// As `pop`, into the place of a ticket's content. A report must wait, or the notice be untold.
+    pub(crate) fn pop_into<P: Slots>(&mut self, slots: &mut P, content: &mut Told)
+        requires some { (self.old.slots ≡ []) × (self.old.untold ≡ None) → ⊥ }
+        requires wide { AreWide (P.pool slots.old) self.old.slots }
+        requires owned { AreOwned (P.pool slots.old) self.old.slots }
+        ensures told { IsToldNext (Some content.new) self.old.untold (P.pool slots.old) self.old.slots }
+        ensures lost_first { LosesFirst (P.pool slots.old) self.old.slots (P.pool slots.new) self.new.slots }
+        ensures as_many { AreAsMany (P.pool slots.old) self.old.slots (P.pool slots.new) self.new.slots }
+        ensures words { (P.pool slots.new).words ≡ (P.pool slots.old).words }
+        ensures rest { P.rest slots.new ≡ P.rest slots.old }
+        ensures untold { self.new.untold ≡ notice_left self.old.slots self.old.untold }
+        ensures size { self.new.size ≡ self.old.size }
+    {
+        let Some(slot) = self.waiting.pop_front() else {
+            self.move_notice(content);
+            return;
+        };
+        take_content(slots, slot, content);
+    }
+
+    // A function of its own: few tickets call it, and it has a whole content in its frame.
+    /// Makes the untold notice, which must be there, a ticket's content.
+    #[inline(never)]
+    fn move_notice(&mut self, content: &mut Told)
+        requires { IsSome self.old.untold }
+        ensures content { option_map Told.Fault self.old.untold ≡ Some content.new }
+        ensures void { self.new ≡ record self.old { untold = None } }
+    {
+        let Some(notice) = self.untold.take() else {
+            unreachable!()
+        };
+        *content = Told::Fault(notice);
+    }
+
+    /// Puts a slot at the end. There must be room.
+    pub(crate) fn push_slot(&mut self, slot: Slot)
+        requires { length self.old.slots < self.old.size }
+        ensures { self.new ≡ record self.old { slots = self.old.slots ++ slot ∷ [] } }
+    {
+        self.waiting.push_back(slot);
     }
 
     /// Makes this notice the untold one.

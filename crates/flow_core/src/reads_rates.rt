@@ -26,7 +26,7 @@ impl Case {
 fn code_reads_rates(code: &Code) -> bool
     ensures { result ≡ code_reads_rates code.now }
 {
-    let mut left = code.instrs.as_slice();
+    let mut left = code.instrs();
     while let Some((first, rest)) = left.split_first() {
         if instr_reads_rates(first.instr()) {
             return true;

@@ -1,5 +1,6 @@
 //! Reports in the words of slots.
-ghost use Rattle.std.specs.Prelude.{◌≡◌, ◌+◌, ◌<◌, ◌≤◌, None, length};
+ghost use Rattle.std.specs.Prelude.{◌≡◌, ◌+◌, ◌<◌, ◌≤◌, min, None, length};
+ghost use Rattle.ccp_base.specs.Limits.{most_fields};
 ghost use Rattle.ccp_base.specs.declared.exchange.Report.{Report};
 ghost use Rattle.slot_pool.specs.Pool.{words_at, IsOut, free_of, ChangesSlot};
 ghost use Rattle.flow_core.specs.Outbox.{most_report_words, head_words, ReportFits, Stores};
@@ -9,7 +10,7 @@ use ccp_base::{FIELDS, Report, Values};
 use slot_pool::{Full, Slot, Slots};
 
 /// How many words stand before the fields of a report: its numbers, and how many fields it has.
-const HEAD_WORDS: usize = 9;
+pub(crate) const HEAD_WORDS: usize = 9;
 
 /// How many words of a slot no report takes. The longest report takes 73, and a slot of 80 is ten cache lines of 64
 /// bytes.
@@ -40,7 +41,8 @@ pub(crate) fn store<P: Slots>(slots: &mut P, report: &Report) -> Slot
 }
 
 /// The words of a report that stand before its fields.
-fn head(report: &Report) -> [u64; HEAD_WORDS]
+#[inline(always)]
+pub(crate) fn head(report: &Report) -> [u64; HEAD_WORDS]
     ensures words { result ≡ head_words report.entry.now }
     ensures in_range { ReportFits report.entry.now }
 {
@@ -58,7 +60,8 @@ fn head(report: &Report) -> [u64; HEAD_WORDS]
 }
 
 /// Writes words into a slot, from a place on. The slot must be out.
-fn write<P: Slots>(slots: &mut P, slot: &Slot, at: u32, words: &[u64])
+#[inline(always)]
+pub(crate) fn write<P: Slots>(slots: &mut P, slot: &Slot, at: u32, words: &[u64])
     requires out { IsOut (P.pool slots.old) slot.now }
     requires within { at + length words.now ≤ most_report_words }
     requires words { most_report_words ≤ (P.pool slots.old).words }
@@ -91,11 +94,11 @@ pub(crate) fn take_report<P: Slots>(slots: &mut P, slot: Slot) -> Report
 }
 
 /// The report that words begin with.
-fn read(words: &[u64]) -> Report
+pub(crate) fn read(words: &[u64]) -> Report
     requires { most_report_words ≤ length words.now }
     ensures { result ≡ report_in words.now }
 {
-    let count = words[8].min(u64::from(FIELDS)) as usize;
+    let count = field_count(words[8]);
     Report {
         flow: narrow(words[0]),
         program: narrow(words[1]),
@@ -109,8 +112,15 @@ fn read(words: &[u64]) -> Report
     }
 }
 
+/// How many fields a report has, by the word of their number.
+pub(crate) fn field_count(word: u64) -> usize
+    ensures { result ≡ min word most_fields }
+{
+    word.min(u64::from(FIELDS)) as usize
+}
+
 /// A number of 32 bits that a word holds.
-fn narrow(word: u64) -> u32
+pub(crate) fn narrow(word: u64) -> u32
     ensures { result ≡ narrow word }
 {
     word.min(u64::from(u32::MAX)) as u32

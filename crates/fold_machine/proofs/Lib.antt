@@ -7,7 +7,10 @@ pub mod KeptLemmas
 pub mod RunnableLemmas
 pub mod RefinementLemmas
 pub mod FormLemmas
-pub mod RunLemmas
-pub mod ConditionLemmas
+pub mod FlagLemmas
+pub mod FlatLemmas
+pub mod FlatEntryLemmas
+pub mod FlatWayLemmas
 pub mod WorkLemmas
 pub mod MachineLemmas
+pub mod WindowLemmas

@@ -10,5 +10,7 @@ pub mod MachineState
 pub mod Heard
 pub mod RestLaws
 pub mod Whole
+pub mod FlatRun
 pub mod Works
 pub mod StepForms
+pub mod FlatWay

@@ -66,11 +66,11 @@ pub(crate) fn declare(store: &mut Store, code: &Code, now: u64)
     ensures others { KeepsOthers store.old store.new }
 {
     store.set_register(ZERO, now);
-    declare_from(store, code.reports.as_slice(), REPORTS);
+    declare_from(store, code.reports(), REPORTS);
     declare_from(
         store,
-        code.controls.as_slice(),
-        REPORTS + code.reports.len() as u32,
+        code.controls(),
+        REPORTS + code.reports().len() as u32,
     );
 }
 
@@ -82,11 +82,11 @@ pub(crate) fn reset(store: &mut Store, code: &Code)
     ensures reset { IsReset code.now store.old.registers store.new.registers }
     ensures others { KeepsOthers store.old store.new }
 {
-    reset_from(store, code.reports.as_slice(), REPORTS);
+    reset_from(store, code.reports(), REPORTS);
     reset_from(
         store,
-        code.controls.as_slice(),
-        REPORTS + code.reports.len() as u32,
+        code.controls(),
+        REPORTS + code.reports().len() as u32,
     );
 }
 

@@ -4,14 +4,15 @@
 #![tactic(auto)]
 
 mod acked;
+mod flat;
 mod general;
+mod holder_calls;
 mod kept;
 mod laws;
 mod machine;
 mod operands;
 mod places;
 mod places_forms;
-mod run;
 mod step;
 mod steps;
 mod store;

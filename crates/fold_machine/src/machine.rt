@@ -25,13 +25,13 @@ use std::sync::ledger::Ledger;
 /// registers as they were.
 #[derive(Drop)]
 pub struct Machine {
-    store: Store,
+    pub(crate) store: Store,
     /// The words that acknowledgements run on. They have the kept registers.
-    words: Vec<u64>,
+    pub(crate) words: Vec<u64>,
     /// How many report fields and control variables the started program has.
     sizes: Sizes,
     /// How many fields the last report has.
-    reported: u32,
+    pub(crate) reported: u32,
     started: bool,
     stopped: bool,
     ran: u32,
@@ -95,12 +95,12 @@ impl Machine {
         ensures unchanged { OnErr result (self.new ≡ self.old) }
     {
         let code = code.code();
-        if let Some(i) = values.first_bad(code.controls.len()) {
+        if let Some(i) = values.first_bad(code.controls().len()) {
             return Err(BadRegister(i));
         }
         self.sizes = Sizes {
-            reports: code.reports.len(),
-            controls: code.controls.len(),
+            reports: code.reports().len(),
+            controls: code.controls().len(),
         };
         declare(&mut self.store, code, now);
         write_values(&mut self.store, self.sizes, values);
@@ -170,7 +170,7 @@ impl Machine {
         ensures fits { Fits self.new code.now.code }
         ensures unchanged { OnErr result (self.new ≡ self.old) }
     {
-        if let Some(i) = values.first_bad(code.code().controls.len()) {
+        if let Some(i) = values.first_bad(code.code().controls().len()) {
             return Err(BadRegister(i));
         }
         write_values(&mut self.store, self.sizes, values);
@@ -251,7 +251,7 @@ impl Slots for Machine {
 fn has_sizes(code: &Code, sizes: Sizes) -> bool
     ensures { IsTrue result ↔ (sizes ≡ sizes_of code.now) }
 {
-    sizes.reports == code.reports.len() && sizes.controls == code.controls.len()
+    sizes.reports == code.reports().len() && sizes.controls == code.controls().len()
 }
 
 /// Whether an answer is a fault.

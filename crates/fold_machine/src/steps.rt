@@ -1,10 +1,10 @@
-//! The count of executed instructions, which takes no bytes at run time and grows one by one.
+//! The count of executed instructions, which takes no bytes at run time and only grows.
 ghost use Rattle.std.specs.Prelude.{◌≡◌, ◌+◌, ◌<◌};
 
 use std::marker::Model;
 use std::sync::ledger::{Blank, Book, Ledger, Share};
 
-/// How many instructions were run. It takes no bytes at run time, and grows only by `tick`.
+/// How many instructions were run. It takes no bytes at run time, and grows only by `count`.
 #[derive(Drop)]
 pub struct Steps<L: Ledger> {
     book: Book<L>,
@@ -33,10 +33,10 @@ impl<L: Ledger> Steps<L> {
         Steps { book, share }
     }
 
-    /// Counts one step.
-    pub(crate) fn tick(&mut self)
-        ensures { self.new ≡ self.old + 1 }
+    /// Counts further steps.
+    pub(crate) fn count(&mut self, steps: u32)
+        ensures { self.new ≡ self.old + steps }
     {
-        self.book.add(&mut self.share, 1);
+        self.book.add(&mut self.share, u64::from(steps));
     }
 }

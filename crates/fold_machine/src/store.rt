@@ -1,5 +1,5 @@
 //! The machine's memory: one pool with the registers, the last report and further slots for its caller.
-ghost use Rattle.std.specs.Prelude.{◌≡◌, ℕ, ◌+◌, ◌<◌, ◌≤◌, ◌≢◌, ◌↔◌, [], length, None, Some, IsErr, IfOk, OnOk, OnErr, replicate, slice_set};
+ghost use Rattle.std.specs.Prelude.{◌≡◌, ℕ, ◌+◌, ◌<◌, ◌≤◌, ◌≢◌, ◌↔◌, [], length, None, Some, option_map, IsErr, IfOk, OnOk, OnErr, replicate, slice_set};
 ghost use Rattle.ccp_base.specs.Limits.{most_slots};
 ghost use Rattle.slot_pool.specs.Pool.{PoolState, words_at, IsOut, free_of, unused, ChangesSlot, TakesZeros, WritesWord, with_run};
 ghost use Rattle.fold_machine.specs.Store.{slot_words};
@@ -101,6 +101,21 @@ impl Store {
         ensures own { self.new ≡ record self.old { further = self.new.further } }
     {
         self.pool.take()
+    }
+
+    /// As `take_further`, but the slot has whatever words are in it: they aren't cleared.
+    pub(crate) fn take_further_as_is(&mut self) -> Result<Slot, Full>
+        ensures full { IsErr result ↔ (free_of self.old.further ≡ 0) }
+        ensures was_free { IfOk result (λ slot. words_at self.old.further slot ≡ None) }
+        ensures taken { IfOk result (λ slot.
+            ChangesSlot self.old.further self.new.further slot (words_at self.new.further slot)) }
+        ensures len { IfOk result (λ slot.
+            option_map (λ words. length words) (words_at self.new.further slot) ≡ Some self.old.further.words) }
+        ensures counted { OnOk result (free_of self.new.further + 1 ≡ free_of self.old.further) }
+        ensures unchanged { OnErr result (self.new.further ≡ self.old.further) }
+        ensures own { self.new ≡ record self.old { further = self.new.further } }
+    {
+        self.pool.take_as_is()
     }
 
     /// Gives a further slot back. It must be out.

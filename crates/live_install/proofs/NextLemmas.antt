@@ -2,7 +2,7 @@
 use Rattle.std.specs.Prelude.{◌≡◌, ◌⊎◌, ℕ, ◌+◌, ◌<◌, ◌≤◌, ◌==◌, zero, suc, Bool, true, false, not, ◌||◌, nat_lt, cond, if◌then◌else◌, Option, Some, None, option_map, Result, Ok, Err, List, [], ◌∷◌, ◌++◌, length, map, drop, slice_get, refl}
 use Rattle.std.specs.List.{position_or_len}
 use Rattle.std.proofs.Common.{ap, sym, ◌∙◌, subst, inl, inr, arith}
-use Rattle.std.proofs.lemmas.Bool.{cases_eq, eq-eqb, ne_eqb, true≢false, ltb-true, ltb-false, lt-ltb, le-ltb}
+use Rattle.std.proofs.lemmas.Bool.{cases_eq, eq-eqb, ne_eqb, true≢false, ltb-true, ltb-false, lt-ltb, le-ltb, or_right}
 use Rattle.std.proofs.lemmas.Option.{none-some, slice_get-map}
 use Rattle.portus_core.specs.Programs.{Form}
 use Rattle.portus_build.specs.declared.fault.BuildFault.{BuildFault}
@@ -236,10 +236,6 @@ passed-push next step form eras era entries is passed left = record {
   found : IsFound eras 0 entries step form
   found = found-from eras 0 entries step form left
 
-  or-true : (b : Bool) → (b || true) ≡ true
-  or-true true = refl
-  or-true false = refl
-
   not_it : (i : ℕ) → step + 1 ≤ i → (era.program == i) ≡ false
   not_it i past = (λ j. is j == i) ∙ ne_eqb step i (λ same. absurd (omega (arith, past, same)))
 
@@ -249,7 +245,7 @@ passed-push next step form eras era entries is passed left = record {
   was : (i : ℕ) (other : Form) → i < step + 1 → slice_get entries i ≡ Some (Ok other) → (step ≡ i) ⊎ (step ≡ i → ⊥)
       → (was_started i eras || (era.program == i)) ≡ true
   was i other below ok (inl same) =
-      (λ k. was_started i eras || ((λ j. is j == i) ∙ eq-eqb step i same) k) ∙ or-true (was_started i eras)
+      (λ k. was_started i eras || ((λ j. is j == i) ∙ eq-eqb step i same) k) ∙ or_right (was_started i eras) true refl
   was i other below ok (inr apart) =
       let zero_on : 0 + i ≡ i = omega arith in
       ap (λ (n : ℕ). was_started n eras || (era.program == i)) (sym zero_on)

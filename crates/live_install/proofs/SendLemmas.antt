@@ -7,7 +7,8 @@ use Rattle.portus_core.specs.contracts.program.Cmd as Cmd
 use Rattle.portus_core.specs.contracts.program.Block as Block
 use Rattle.portus_core.specs.contracts.program.Program as Program
 use Rattle.reg_code.specs.contracts.checked.Checked as Checked
-use Rattle.reg_code.specs.contracts.packed.Packed as Packed
+use Rattle.reg_code.specs.contracts.code.Code as Code
+use Rattle.reg_code.proofs.code.Code.TheSendSync as code
 use Rattle.reg_compiler.specs.contracts.built.Built as Built
 use Rattle.fold_machine.specs.contracts.machine.Machine as Machine
 use Rattle.link_model.specs.contracts.link.Link as Link
@@ -24,11 +25,11 @@ block-send = search (cmd-send, crosses, knot.crosses, sendable) depth 60 fits 20
 program-send : IsSend (Program.the_field).row
 program-send = search (block-send, crosses, knot.crosses, sendable) depth 60 fits 20000
 
-packed-send : IsSend Packed.the_row
-packed-send = search (crosses, sendable) depth 60 fits 20000
+code-send : IsSend Code.the_row
+code-send = code.the_send
 
 checked-send : IsSend (Checked.the_field).row
-checked-send = search (packed-send, crosses, sendable) depth 60 fits 20000
+checked-send = search (code-send, crosses, sendable) depth 60 fits 20000
 
 built-send : IsSend Built.the_row
 built-send =

@@ -1,6 +1,6 @@
 //! Messages of every kind, written and read.
 
-ghost use Rattle.std.specs.Prelude.{◌≡◌, []};
+ghost use Rattle.std.specs.Prelude.{◌≡◌, [], IfOk};
 ghost use Rattle.ccp_messages.specs.Messages.{Meets};
 ghost use Rattle.ccp_messages.specs.declared.message.Message.TheVariants.{Install, Fault};
 ghost use Rattle.ccp_base.specs.declared.arithmetic.FaultKind.TheVariants.{Overflow};
@@ -10,7 +10,7 @@ use crate::frames::{
     ACK_BYTES, CHANGE_8, CREATE, FAULT, FAULT_1, INSTALL, INSTALL_5, MEASURE, MEASURE_WIDE,
     REFUSED_2, UPDATE, ack_frame,
 };
-use ccp_base::{Bytes, FaultKind, FieldReg, Fields, Notice, Values};
+use ccp_base::{Bytes, FaultKind, FieldReg, Fields, NoMemory, Notice, Values};
 use ccp_messages::{Message, Reason, Short, Version, decode, encode_into};
 use reg_code::{Code, Sequence};
 use std::alloc::{AllocError, Global};
@@ -64,27 +64,30 @@ fn fault_is_written() -> bool {
 }
 
 #[test]
-fn messages_are_written(rt: HostRuntime) {
+fn messages_are_written(rt: HostRuntime) -> Result<(), Fail> {
     assert!(rt; create_is_written());
     assert!(rt; fault_is_written());
-    assert!(rt; install_is_written(rt.alloc()));
+    assert!(rt; install_is_written(rt.alloc())?);
+    Ok(())
 }
 
 /// An Install without registers, events and instructions.
-fn empty_install(alloc: Global) -> Message
-    ensures { result ≡ Install 0 5 (record { reports = []; controls = []; events = []; instrs = [] }) }
+fn empty_install(alloc: Global) -> Result<Message, NoMemory>
+    ensures { IfOk result (λ message. message
+        ≡ Install 0 5 (record { reports = []; controls = []; events = []; instrs = [] })) }
 {
-    let code = Code {
-        reports: Sequence::new(alloc),
-        controls: Sequence::new(alloc),
-        events: Sequence::new(alloc),
-        instrs: Sequence::new(alloc),
-    };
-    Message::Install {
+    let code = Code::new(
+        alloc,
+        Sequence::new(alloc),
+        Sequence::new(alloc),
+        Sequence::new(alloc),
+        Sequence::new(alloc),
+    )?;
+    Ok(Message::Install {
         flow: 0,
         program: 5,
         code,
-    }
+    })
 }
 
 /// The Change of flow 0 to program 3 with a window.
@@ -115,20 +118,23 @@ fn change_is_short() -> bool {
     is_short(&change(), &mut [9; 29], 30)
 }
 
-fn install_is_short(alloc: Global) -> bool {
-    is_short(&empty_install(alloc), &mut [9; 19], 20)
+fn install_is_short(alloc: Global) -> Result<bool, NoMemory> {
+    let install = empty_install(alloc)?;
+    Ok(is_short(&install, &mut [9; 19], 20))
 }
 
-fn install_is_written(alloc: Global) -> bool {
-    is_written(&empty_install(alloc), Version::One, &mut [9; 46], INSTALL_5)
+fn install_is_written(alloc: Global) -> Result<bool, NoMemory> {
+    let install = empty_install(alloc)?;
+    Ok(is_written(&install, Version::One, &mut [9; 46], INSTALL_5))
 }
 
 /// What is short gets nothing.
 #[test]
-fn short_slices_are_left(rt: HostRuntime) {
+fn short_slices_are_left(rt: HostRuntime) -> Result<(), Fail> {
     assert!(rt; fault_is_short());
     assert!(rt; change_is_short());
-    assert!(rt; install_is_short(rt.alloc()));
+    assert!(rt; install_is_short(rt.alloc())?);
+    Ok(())
 }
 
 /// How long the message is that begins the bytes, if it comes back from what is written of it in the version it came

@@ -12,12 +12,13 @@ use std::test::Fail;
 
 /// A code without registers, events and instructions.
 fn empty_code(alloc: Global) -> Result<Checked, Fail> {
-    let code = Code {
-        reports: Sequence::new(alloc),
-        controls: Sequence::new(alloc),
-        events: Sequence::new(alloc),
-        instrs: Sequence::new(alloc),
-    };
+    let code = Code::new(
+        alloc,
+        Sequence::new(alloc),
+        Sequence::new(alloc),
+        Sequence::new(alloc),
+        Sequence::new(alloc),
+    )?;
     Ok(verify(code).ok().ok_or("refused")?)
 }
 

@@ -1,5 +1,6 @@
 //! Code that the verifier refuses, each with the first rule that it fails.
 use crate::packing::pack_all;
+use ccp_base::NoMemory;
 use code_verifier::verify;
 use reg_code::{Code, Event, Implicit, Instr, Op, Op2, Reg, Rule, Sequence, Start};
 use std::alloc::{AllocError, Global};
@@ -51,13 +52,12 @@ fn code(
     controls: usize,
     events: &[Event],
     instrs: &[Instr],
-) -> Result<Code, AllocError> {
-    Ok(Code {
-        reports: starts(alloc, reports)?,
-        controls: starts(alloc, controls)?,
-        events: Sequence::from_vec(Vec::from_slice(alloc, events)?),
-        instrs: pack_all(alloc, instrs)?,
-    })
+) -> Result<Code, NoMemory> {
+    let reports = starts(alloc, reports)?;
+    let controls = starts(alloc, controls)?;
+    let events = Sequence::from_vec(Vec::from_slice(alloc, events)?);
+    let instrs = pack_all(alloc, instrs)?;
+    Code::new(alloc, reports, controls, events, instrs)
 }
 
 fn refusal(code: Code) -> Refusal {
@@ -85,7 +85,7 @@ const COUNTS: [Counts; 6] = [
     (64, 64, 1, WHOLE, 256, Some((Rule::Writable, 1))),
 ];
 
-fn refusal_of_counts(alloc: Global, counts: &Counts) -> Result<Refusal, AllocError> {
+fn refusal_of_counts(alloc: Global, counts: &Counts) -> Result<Refusal, NoMemory> {
     let (reports, controls, size, event, holding, _) = *counts;
     let events = vec![in alloc; event; size]?;
     let instrs = vec![in alloc; HOLDS; holding]?;
@@ -122,7 +122,7 @@ fn refusal_of_event(
     first: Line,
     second: Line,
     body: Line,
-) -> Result<Refusal, AllocError> {
+) -> Result<Refusal, NoMemory> {
     let event = Event {
         condition: 2,
         body: 1,
@@ -210,6 +210,6 @@ fn refuses_the_first_rule_that_a_condition_fails(rt: HostRuntime) -> Result<(), 
 #[test]
 fn hands_a_code_back(rt: HostRuntime) -> Result<(), Fail> {
     let refusal = verify(code(rt.alloc(), 3, 0, &[], &[HOLDS])?).err();
-    assert!(rt; refusal.ok_or("accepted")?.code.reports.len() == 3);
+    assert!(rt; refusal.ok_or("accepted")?.code.reports().len() == 3);
     Ok(())
 }

@@ -4,8 +4,11 @@
 
 mod checked;
 mod code;
+mod flat;
+mod flattening;
 mod form;
 mod limits;
+mod neat;
 mod op_number;
 mod packed;
 pub mod places;
@@ -15,6 +18,7 @@ mod text;
 pub use ccp_base::{FIELDS, Op2, PRIMITIVES, Sequence};
 pub use checked::Checked;
 pub use code::{Code, Event, Implicit, Instr, Op, Reg, Start};
+pub use flat::FlatEntry;
 pub use form::Form;
 pub use limits::{CONTROLS, EVENTS, INSTRS, LOCALS, TEMPS, TENTHS, limits_hold};
 pub use op_number::op_numbered;

@@ -15,10 +15,10 @@ pub fn listing(alloc: Global, code: &Code) -> Result<Bytes, NoMemory>
     ensures { IfOk result (λ text. text ≡ listing_text code.now) }
 {
     let mut text = Bytes::new(alloc);
-    put_starts(alloc, &mut text, "report", code.reports.as_slice())?;
-    put_starts(alloc, &mut text, "control", code.controls.as_slice())?;
-    put_events(alloc, &mut text, code.events.as_slice())?;
-    put_instrs(alloc, &mut text, code.instrs.as_slice())?;
+    put_starts(alloc, &mut text, "report", code.reports())?;
+    put_starts(alloc, &mut text, "control", code.controls())?;
+    put_events(alloc, &mut text, code.events())?;
+    put_instrs(alloc, &mut text, code.instrs())?;
     Ok(text)
 }
 

@@ -2,7 +2,6 @@
 ghost use Rattle.ccp_base.specs.Outside.{no_memory};
 
 use ccp_base::{NoMemory, Place};
-use std::alloc::AllocError;
 
 /// Why a program isn't compiled.
 #[derive(Clone, Copy, PartialEq, Eq, Debug)]
@@ -16,13 +15,13 @@ pub enum CompileFault {
     NoMemory(NoMemory),
 }
 
-impl From<AllocError> for CompileFault {
+impl From<NoMemory> for CompileFault {
     ghost use Rattle.std.specs.Prelude.{◌≡◌};
     ghost use Rattle.reg_compiler.specs.declared.fault.CompileFault.TheVariants.{NoMemory};
 
     ghost from_gives = { λ _ e. e ≡ NoMemory no_memory };
 
-    fn from(error: AllocError) -> Self {
-        CompileFault::NoMemory(NoMemory::from(error))
+    fn from(error: NoMemory) -> Self {
+        CompileFault::NoMemory(error)
     }
 }

@@ -2,6 +2,7 @@
 use Rattle.std.proofs.Common.{◌≡◌, ℕ, ◌+◌, ◌-◌, ◌<◌, ◌≤◌, Bool, true, false, ◌&&◌, nat_le, Option, Some, None, List, [], ◌∷◌, ◌++◌, replicate, refl, ap, sym, ◌∙◌, arith, cond, append_assoc, append-nil, add-one}
 use Rattle.std.specs.Bool.{⊤}
 use Rattle.std.proofs.lemmas.Bool.{le-leb, leb-true}
+use Rattle.std.proofs.lemmas.Option.{none-some}
 use Rattle.flow_core.specs.declared.letter.Letter.{Letter}
 use Rattle.flow_core.specs.declared.letter.Letter.TheVariants.{A, T, C}
 use Rattle.run_audit.specs.declared.mark.Mark.{Mark}
@@ -20,9 +21,6 @@ marks_along at [] = []
 marks_along at (A ∷ rest) = marks_along (at + 1) rest
 marks_along at (T ∷ rest) = record { at = at; letter = T } ∷ marks_along at rest
 marks_along at (C ∷ rest) = record { at = at; letter = C } ∷ marks_along at rest
-
-some_none : {X : Type 0} {x : X} → None ≡ Some x → ⊥
-some_none e = cc
 
 one_ack : (letters : List Letter) (count : ℕ) → with_acks (letters ++ A ∷ []) count ≡ with_acks letters (count + 1)
 one_ack letters count = append_assoc letters (A ∷ []) (replicate count A) ∙ ap (λ more. letters ++ more) (sym (more count))
@@ -52,8 +50,8 @@ early acks letters at (mark ∷ rest) word below is = go (nat_le (at + 1) mark.a
         ∙ ap (λ n. next n letters) fewer
         ∙ ap (λ w. word_after acks (w ++ mark.letter ∷ []) mark.at rest) (sym (one_ack letters (mark.at - (at + 1))))
         ∙ is
-    go true false above inside is = absurd (some_none is)
-    go false within above inside is = absurd (some_none is)
+    go true false above inside is = absurd (none-some word is)
+    go false within above inside is = absurd (none-some word is)
 
 at_once : (acks : ℕ) (letters : List Letter) (at : ℕ) (letter : Letter) (rest : List Mark) (word : List Letter) → at ≤ acks → word_after acks (letters ++ letter ∷ []) at rest ≡ Some word → word_after acks letters at (record { at = at; letter = letter } ∷ rest) ≡ Some word
 at_once acks letters at letter rest word below is =

@@ -34,17 +34,13 @@ shaped-plain (c ∷ rest) is =
 field-plain : (name : List ℕ) → is_field_name name ≡ true → IsPlain LineFeed name
 field-plain name is = shaped-plain name (and_parts (is_name_shaped name) _ is).0
 
-first_last : (a b c d : Bool) → (a && b && c && d) ≡ true → (a ≡ true) × (d ≡ true)
-first_last true true true d is = (refl, is)
-first_last true true false d is = absurd (false≢true is)
-first_last true false c d is = absurd (false≢true is)
-first_last false b c d is = absurd (false≢true is)
-
 fields-plain : (decls : List Decl) → are_declared is_field_name decls ≡ true → ArePlainly decls
 fields-plain [] is = tt
 fields-plain (decl ∷ rest) is =
-    let parts = first_last (is_field_name decl.name) (is_start decl) (not (is_named_in decl.name rest)) (are_declared is_field_name rest) is in
-    (field-plain decl.name parts.0, fields-plain rest parts.1)
+    let own = is_field_name decl.name && is_start decl in
+    let parts = and_parts (own && not (is_named_in decl.name rest)) (are_declared is_field_name rest) is in
+    let here = and_parts own (not (is_named_in decl.name rest)) parts.0 in
+    (field-plain decl.name (and_parts (is_field_name decl.name) (is_start decl) here.0).0, fields-plain rest parts.1)
 
 program-plain : (program : Program) → ArePlainly (form_of program).fields
 program-plain program = fields-plain program.fields.items (and_parts (are_declared is_field_name program.fields.items) _ program.declared).0

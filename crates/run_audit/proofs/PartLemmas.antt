@@ -1,5 +1,6 @@
 -- A rest is what is left after a part if and only if the text is the part of a legal and complete word and this rest.
 use Rattle.std.proofs.Common.{◌≡◌, ℕ, ◌^◌, ◌<◌, Bool, true, false, ◌&&◌, Option, Some, None, List, ◌++◌, refl, ap, sym, ◌∙◌, arith, cond, append_assoc}
+use Rattle.std.proofs.lemmas.Option.{same_Some}
 use Rattle.flow_core.specs.declared.case.Case.{Case}
 use Rattle.flow_core.specs.declared.letter.Letter.{Letter}
 use Rattle.flow_core.specs.Words.{world, legal, is_complete}
@@ -14,9 +15,6 @@ use Rattle.run_audit.specs.PartLeft.{body_text, account_left, word_left, body_le
 use Rattle.run_audit.proofs.FrontLemmas.{after-front, after-is}
 use Rattle.run_audit.proofs.LineReadings.{HasPlainNames, account-marks}
 use Rattle.run_audit.proofs.WorldMarks.{forced_tickets, tickets-within}
-
-pub some_same : {X : Type 0} {a b : X} → Some a ≡ Some b → a ≡ b
-some_same e = cc
 
 module _ (sources : Sources) (case : Case) where
   -- a case's part for a word
@@ -49,7 +47,7 @@ module _ (sources : Sources) (case : Case) where
     where
       go : (l c : Bool) → legal (flow_from sources case) case.link word ≡ l → is_complete (flow_from sources case) (world (flow_from sources case) case.link word) ≡ c
           → cond (l && c) (Some (account_of_word word)) None ≡ Some account → IsWordOf sources case word × (account_of_word word ≡ account)
-      go true true legal complete is = (record { legal = legal; complete = complete }, some_same is)
+      go true true legal complete is = (record { legal = legal; complete = complete }, same_Some (account_of_word word) account is)
       go true false legal complete is = absurd (cc)
       go false c legal complete is = absurd (cc)
 

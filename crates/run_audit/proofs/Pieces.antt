@@ -3,8 +3,11 @@ use Rattle.std.proofs.Common.{◌≡◌, ℕ, Bool, true, false, not, ◌&&◌, 
 use Rattle.std.specs.List.{list_all, starts_with}
 use Rattle.std.specs.Bool.{⊤}
 use Rattle.std.specs.Fmt.{decimal}
-use Rattle.std.proofs.lemmas.Bool.{and_parts, and_from, eqb-true, false≢true}
+use Rattle.std.proofs.lemmas.Bool.{and_parts, and_from, eqb-true, false≢true, not-true}
 use Rattle.std.proofs.lemmas.Bool.Decides.{nat_tests}
+use Rattle.std.proofs.lemmas.List.Elements.{All-weaker}
+use Rattle.std.proofs.lemmas.List.Folds.{list_all-append}
+use Rattle.std.proofs.lemmas.List.Sums.{AllPass-from_list_all, list_all-from_AllPass}
 use Rattle.ccp_base.specs.declared.parts.Separator.{Separator}
 use Rattle.ccp_base.specs.declared.parts.Separator.TheVariants.{LineFeed, Blank}
 use Rattle.ccp_base.specs.Numerals.{is_digit}
@@ -18,20 +21,12 @@ use Rattle.run_audit.specs.Marks.{past}
 pub record IsPlain (separator : Separator) (text : List ℕ) : Type 0 where
   pub plain : list_all (λ byte. not (separates separator byte)) text ≡ true
 
-all-append : (p : ℕ → Bool) (xs ys : List ℕ) → list_all p xs ≡ true → list_all p ys ≡ true → list_all p (xs ++ ys) ≡ true
-all-append p [] ys these those = those
-all-append p (x ∷ xs) ys these those =
-    let parts = and_parts (p x) (list_all p xs) these in
-    and_from (p x) (list_all p (xs ++ ys)) parts.0 (all-append p xs ys parts.1 those)
-
+-- what each byte of a kind passes, a text of such bytes passes
 all-of : (p q : ℕ → Bool) (xs : List ℕ) → ((x : ℕ) → p x ≡ true → q x ≡ true) → list_all p xs ≡ true → list_all q xs ≡ true
-all-of p q [] more is = refl
-all-of p q (x ∷ xs) more is =
-    let parts = and_parts (p x) (list_all p xs) is in
-    and_from (q x) (list_all q xs) (more x parts.0) (all-of p q xs more parts.1)
+all-of p q xs more is = list_all-from_AllPass q xs (All-weaker (λ x. p x ≡ true) (λ x. q x ≡ true) more xs (AllPass-from_list_all p xs is))
 
 pub plain-append : {s : Separator} {x y : List ℕ} → IsPlain s x → IsPlain s y → IsPlain s (x ++ y)
-plain-append {s} {x} {y} a b = record { plain = all-append (λ byte. not (separates s byte)) x y a.plain b.plain }
+plain-append {s} {x} {y} a b = record { plain = list_all-append (λ byte. not (separates s byte)) x y ∙ and_from _ _ a.plain b.plain }
 
 pub plain-of : (s : Separator) (p : ℕ → Bool) (x : List ℕ) → ((b : ℕ) → p b ≡ true → not (separates s b) ≡ true) → list_all p x ≡ true → IsPlain s x
 plain-of s p x never is = record { plain = all-of p (λ byte. not (separates s byte)) x never is }
@@ -41,12 +36,8 @@ pub ended-part : (s : Separator) (part : List ℕ) (byte : ℕ) (rest : List ℕ
 ended-part s [] byte rest plain is = ap (λ b. cond b ([] ∷ parts_of s rest) (with_first byte (parts_of s rest))) is
 ended-part s (x ∷ xs) byte rest plain is =
     let parts = and_parts (not (separates s x)) (list_all (λ b. not (separates s b)) xs) plain.plain in
-    ap (λ b. cond b ([] ∷ parts_of s (xs ++ byte ∷ rest)) (with_first x (parts_of s (xs ++ byte ∷ rest)))) (not_true (separates s x) parts.0)
+    ap (λ b. cond b ([] ∷ parts_of s (xs ++ byte ∷ rest)) (with_first x (parts_of s (xs ++ byte ∷ rest)))) (not-true (separates s x) parts.0)
     ∙ ap (with_first x) (ended-part s xs byte rest (record { plain = parts.1 }) is)
-  where
-    not_true : (b : Bool) → not b ≡ true → b ≡ false
-    not_true true is = absurd (cc)
-    not_true false is = refl
 
 -- ---- digits
 

@@ -1,5 +1,6 @@
 -- The verdict case by case is the verdict on the text.
 use Rattle.std.proofs.Common.{◌≡◌, ℕ, zero, suc, ◌+◌, ◌≤◌, Option, Some, None, option_map, unwrap_or, List, [], ◌∷◌, ◌++◌, length, take, refl, ap, sym, subst, ◌∙◌, arith, append_assoc}
+use Rattle.std.proofs.lemmas.Option.{same_Some, none-some}
 use Rattle.flow_core.specs.declared.case.Case.{Case}
 use Rattle.flow_core.specs.declared.letter.Letter.{Letter}
 use Rattle.reg_compiler.specs.Sources.{Sources}
@@ -9,7 +10,7 @@ use Rattle.run_audit.specs.declared.verdict.Verdict.TheVariants.{Yes, No}
 use Rattle.run_audit.specs.Audit.{AreWordsOf, with_words, IsLiveText, BeginsWithLiveText, IsNot, IsVerdict}
 use Rattle.run_audit.specs.PartLeft.{part_left, verdict_on}
 use Rattle.run_audit.proofs.LineReadings.{HasPlainNames}
-use Rattle.run_audit.proofs.PartLemmas.{some_same, HasPart, part_of_word, left-of_part, part-of_left}
+use Rattle.run_audit.proofs.PartLemmas.{HasPart, part_of_word, left-of_part, part-of_left}
 
 module _ (sources : Sources) (named : HasPlainNames sources) where
   -- after this many parts
@@ -19,13 +20,10 @@ module _ (sources : Sources) (named : HasPlainNames sources) where
 
   -- what of a text that begins with the parts of a case and more is left after the first
   left_first : (case : Case) (text left rest : List ℕ) → part_left sources case text ≡ Some left → HasPart sources case text rest → left ≡ rest
-  left_first case text left rest is has = some_same (sym is ∙ left-of_part sources case named text rest has)
+  left_first case text left rest is has = same_Some left rest (sym is ∙ left-of_part sources case named text rest has)
 
   none_left : (case : Case) (text rest : List ℕ) → part_left sources case text ≡ None → HasPart sources case text rest → ⊥
-  none_left case text rest is has = none_some (sym is ∙ left-of_part sources case named text rest has)
-    where
-      none_some : {X : Type 0} {b : X} → None ≡ Some b → ⊥
-      none_some e = cc
+  none_left case text rest is has = none-some rest (sym is ∙ left-of_part sources case named text rest has)
 
   -- ---- a live text and its first part
 

@@ -1,5 +1,6 @@
 -- The words are determined by the text, and so is the verdict.
 use Rattle.std.proofs.Common.{◌≡◌, ℕ, ◌≤◌, List, [], ◌∷◌, ◌++◌, refl, ap, sym, ◌∙◌, arith, append_assoc}
+use Rattle.std.proofs.lemmas.Option.{same_Some}
 use Rattle.flow_core.specs.declared.case.Case.{Case}
 use Rattle.flow_core.specs.declared.letter.Letter.{Letter}
 use Rattle.flow_core.specs.Words.{world}
@@ -14,11 +15,11 @@ use Rattle.run_audit.specs.Marks.{text_marks}
 use Rattle.run_audit.specs.PartLeft.{body_text}
 use Rattle.run_audit.proofs.FrontLemmas.{after-front}
 use Rattle.run_audit.proofs.LineReadings.{HasPlainNames}
-use Rattle.run_audit.proofs.PartLemmas.{some_same, part_of_word, word_read}
+use Rattle.run_audit.proofs.PartLemmas.{part_of_word, word_read}
 
 -- one text follows a front
 same_rest : (front rest other : List ℕ) → front ++ rest ≡ front ++ other → rest ≡ other
-same_rest front rest other is = some_same (sym (after-front front rest) ∙ ap (text_after front) is ∙ after-front front other)
+same_rest front rest other is = same_Some rest other (sym (after-front front rest) ∙ ap (text_after front) is ∙ after-front front other)
 
 module _ (sources : Sources) (named : HasPlainNames sources) where
   abbrev body : Case → List Letter → List ℕ
@@ -34,7 +35,7 @@ module _ (sources : Sources) (named : HasPlainNames sources) where
 
   same_word : (case : Case) (word other : List Letter) (rest more : List ℕ) → IsWordOf sources case word → IsWordOf sources case other
       → part_of_word sources case word ++ rest ≡ part_of_word sources case other ++ more → word ≡ other
-  same_word case word other rest more is are same = some_same (
+  same_word case word other rest more is are same = same_Some word other (
       sym (word_read sources case named word is rest)
       ∙ ap (λ text. forced_word case.acks (text_marks text)) (same_bodies case word other rest more same)
       ∙ word_read sources case named other are more)

@@ -1,6 +1,7 @@
 -- The marks of a flow's tickets are those along its word.
-use Rattle.std.proofs.Common.{◌≡◌, ℕ, ◌+◌, ◌<◌, ◌≤◌, Bool, true, false, not, nat_lt, is_none, is_some, Option, Some, None, List, [], ◌∷◌, ◌++◌, length, map, refl, ap, sym, subst, ◌∙◌, arith, append_assoc, append-nil, length-append}
-use Rattle.std.proofs.lemmas.Bool.{and_parts, ltb-true, ltb-false}
+use Rattle.std.proofs.Common.{◌≡◌, ℕ, ◌+◌, ◌<◌, ◌≤◌, true, not, nat_lt, is_none, is_some, Option, Some, None, List, [], ◌∷◌, ◌++◌, length, map, refl, ap, sym, subst, ◌∙◌, arith, append_assoc, append-nil, length-append}
+use Rattle.std.proofs.lemmas.Bool.{and_parts, ltb-true, ltb-false, not-true}
+use Rattle.std.proofs.option.Match.{None-if_not_some}
 use Rattle.link_model.specs.declared.link_case.LinkCase.{LinkCase}
 use Rattle.ccp_base.specs.declared.exchange.Reply.{Reply}
 use Rattle.ccp_base.specs.declared.exchange.Reply.TheVariants.{Nothing, Update, Change}
@@ -20,12 +21,7 @@ use Rattle.run_audit.specs.Marks.{marks_at, ticket_marks}
 use Rattle.run_audit.proofs.ForcedLemmas.{acks_in, marks_along, forced, AreWithin, along-within}
 
 none_out : {Y : Type 0} (o : Option Y) → is_none o ≡ true → o ≡ None
-none_out None is = refl
-none_out (Some y) is = absurd (cc)
-
-not_true : (b : Bool) → not b ≡ true → b ≡ false
-not_true true is = absurd (cc)
-not_true false is = refl
+none_out o is = None-if_not_some o (not-true (is_some o) is)
 
 module _ {X : Type 0} (flow : Flow X) (link : LinkCase) where
   -- the marks of answered tickets, then that of the one that is out
@@ -161,7 +157,7 @@ module _ {X : Type 0} (flow : Flow X) (link : LinkCase) where
     none_left = none_out (ended word).out (and_parts (is_none (ended word).out) (not (can_take (ended word))) still.1).0
 
     all_in : flow.acks ≤ length (ended word).acks
-    all_in = ltb-false (length (ended word).acks) flow.acks (not_true (nat_lt (length (ended word).acks) flow.acks) still.0)
+    all_in = ltb-false (length (ended word).acks) flow.acks (not-true (nat_lt (length (ended word).acks) flow.acks) still.0)
 
     alike : ticket_marks (tickets_of word) ≡ marks_along 0 word
     alike =

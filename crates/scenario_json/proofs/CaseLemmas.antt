@@ -1,8 +1,9 @@
 -- What a case's codes keep within, and that two roles of one number have one program.
-use Rattle.std.proofs.Common.{◌≡◌, ℕ, ◌<◌, ◌≤◌, List, Some, None, cond, nat_lt, take, length, codes, sym, ap, ◌∙◌, arith}
+use Rattle.std.proofs.Common.{◌≡◌, ℕ, ◌<◌, List, Some, nat_lt, take, length, codes, sym, ap, ◌∙◌, arith}
 use Rattle.std.specs.Option.{ForSome}
-use Rattle.std.proofs.lemmas.Bool.Decides.{nat_tests}
+use Rattle.std.proofs.lemmas.Bool.{ltb-true}
 use Rattle.std.proofs.lemmas.List.{length-map, length-take}
+use Rattle.std.proofs.lemmas.Option.{same_Some, cond_some}
 use Rattle.std.specs.List.{position_or_len}
 use Rattle.ccp_base.specs.Limits.{most_fields}
 use Rattle.ccp_base.specs.declared.place.Place.{Place}
@@ -16,13 +17,13 @@ use Rattle.flow_core.specs.declared.case.Coded.{Coded}
 use Rattle.flow_core.specs.Cases.{KeepsWithin, AreOne}
 use Rattle.scenario_json.specs.Cases.{coded_at}
 
-below_where : (n m limit x : ℕ) → m ≤ limit → cond (nat_lt n m) (Some n) None ≡ Some x → x < limit
-below_where n m limit x short found = grind (arith, nat_tests)
-
 within : (name : List ℕ) (decls : List Decl) (count : ℕ) → count ≡ length decls → ForSome (declaration_number name decls) (λ n. n < count)
 within name decls count is = λ x found.
-    below_where (position_or_len (has_name name) (take most_fields decls)) (length (take most_fields decls)) count x
-    (omega (arith, is, length-take most_fields decls)) found
+    let first = take most_fields decls in
+    let place = position_or_len (has_name name) first in
+    let there = cond_some (nat_lt place (length first)) place x found in
+    let below = ltb-true place (length first) there.0 in
+    omega (arith, is, below, there.1, length-take most_fields decls)
 
 -- what a program declares, the code that simulates it has as registers
 pub looks_within : (form : Form) (code : Code) (places : List Place) → Simulates form code places → KeepsWithin (look_of form) code
@@ -39,10 +40,7 @@ looks_within form code places h =
       within (codes "mss") form.controls (length code.controls) controls,
     )
 
-one_value : (left right : Coded) → Some left ≡ Some right → left ≡ right
-one_value left right e = cc
-
 -- two roles of one number have one program
 pub one_program : (programs : List (ℕ × Built)) (ss ca : Coded) → coded_at programs ss.role.number ≡ Some ss → coded_at programs ca.role.number ≡ Some ca → AreOne ss ca
 one_program programs ss ca is_ss is_ca = λ same.
-    let one : ss ≡ ca = one_value ss ca (sym is_ss ∙ ap (coded_at programs) same ∙ is_ca) in (ap (λ c. c.role.look) one, ap (λ c. c.code.code) one)
+    let one : ss ≡ ca = same_Some ss ca (sym is_ss ∙ ap (coded_at programs) same ∙ is_ca) in (ap (λ c. c.role.look) one, ap (λ c. c.code.code) one)

@@ -1,13 +1,13 @@
 -- The cases that are put together of plans, one more at a time, and the links of plans whose flows start at once.
 use Rattle.std.proofs.Common.{◌≡◌, ℕ, ◌+◌, List, [], ◌∷◌, ◌++◌, length, map, refl, sym, ap, ◌∙◌, arith, append_assoc}
 use Rattle.std.proofs.lemmas.List.{map_push}
+use Rattle.std.proofs.lemmas.List.Elements.{All-push}
 use Rattle.std.specs.List.{All}
 use Rattle.reg_compiler.specs.declared.built.Built.{Built}
 use Rattle.flow_core.specs.declared.case.Case.{Case}
 use Rattle.scene_members.specs.declared.plan.Plan.{Plan}
 use Rattle.scene_core.specs.CasePlans.{plan_of, flow_link_of, at_once, link_at_once, AreFlowsFrom}
 use Rattle.scenario_json.specs.Cases.{case_names, IsCoded}
-use Rattle.scene_members.proofs.ListLemmas.{all_pushed}
 
 -- these cases are put together of the plans but for those that are left
 pub record ArePut (programs : List (ℕ × Built)) (plans : List Plan) (cases : List Case) (left : List Plan) (names : List (List ℕ)) : Type 0 where
@@ -28,7 +28,7 @@ put_step programs plans cases left rest plan one names is h flow said coded = re
   said =
       ap (λ done. done ++ map at_once rest) (map_push plan_of cases one) ∙ append_assoc (map plan_of cases) (plan_of one ∷ []) (map at_once rest)
       ∙ ap (λ p. map plan_of cases ++ p ∷ map at_once rest) said ∙ sym (ap (λ ps. map plan_of cases ++ map at_once ps) is) ∙ h.said;
-  coded = all_pushed (IsCoded programs) cases one h.coded coded;
+  coded = All-push (IsCoded programs) cases one h.coded coded;
   flows = flows_pushed 0 cases one h.flows (omega (arith, flow));
   named =
       ap (λ ns. ns ++ plan.name ∷ []) h.named ∙ ap (λ n. case_names cases ++ n ∷ []) (sym (ap (λ p. p.name) said))

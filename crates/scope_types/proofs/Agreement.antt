@@ -1,5 +1,6 @@
 -- An answer that agrees with the walk over the forms agrees with what the forms stand for.
 use Rattle.std.proofs.Common.{◌≡◌, ◌≢◌, ◌∙◌, sym, subst, refl, Result, Ok, Err, IfOk, IfErr, MatchResult}
+use Rattle.std.proofs.lemmas.Result.{IfOk-weaker}
 use Rattle.ccp_base.specs.Outside.{no_memory}
 use Rattle.portus_core.specs.Programs.{Form}
 use Rattle.portus_core.specs.Trees.{Nodes}
@@ -7,7 +8,6 @@ use Rattle.scope_types.specs.declared.fault.ScopeFault.{ScopeFault}
 use Rattle.scope_types.specs.declared.fault.ScopeFault.TheVariants.{Unknown, Twice, NotWritable, Kind, Misplaced, Micros, TooMany, NoMemory}
 use Rattle.scope_types.specs.ProgramWalk.{source_walk}
 use Rattle.scope_types.specs.WellScoped.{IsScoped}
-use Rattle.scope_types.proofs.Results.{ok_map}
 use Rattle.scope_types.proofs.ScopedSource.{source_scoped}
 use Rattle.scope_types.proofs.GivenSource.{source_given}
 
@@ -33,7 +33,7 @@ only_that nodes (Err e) shape ok err form h = refused_only nodes e err form (sou
 -- the same, if the nodes are named twice
 pub found_over : {P : Type 0} (answer : Result P ScopeFault) (shape : P → Form) (nodes same : Nodes) → nodes ≡ same → IfOk answer (λ p. source_walk nodes ≡ Ok (shape p)) → IfOk answer (λ p. IsScoped same (shape p))
 found_over answer shape nodes same e ok =
-    ok_map answer _ _ ok (λ p f. subst (λ ns. IsScoped ns (shape p)) e (scoped_from nodes (shape p) f))
+    IfOk-weaker answer _ _ (λ p f. subst (λ ns. IsScoped ns (shape p)) e (scoped_from nodes (shape p) f)) ok
 
 pub only_over : {P : Type 0} (answer : Result P ScopeFault) (shape : P → Form) (nodes same : Nodes) → nodes ≡ same → IfOk answer (λ p. source_walk nodes ≡ Ok (shape p)) → IfErr answer (λ e. e ≢ NoMemory no_memory → source_walk nodes ≡ Err e) → (form : Form) → IsScoped same form → MatchResult answer (λ p. shape p ≡ form) (λ e. e ≡ NoMemory no_memory)
 only_over answer shape nodes same e ok err form h = only_that nodes answer shape ok err form (subst (λ ns. IsScoped ns form) (sym e) h)

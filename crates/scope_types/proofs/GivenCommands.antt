@@ -1,6 +1,8 @@
 -- Commands that are well scoped are given by the walk over them.
-use Rattle.std.proofs.Common.{◌≡◌, inl, inr, ℕ, ◌<◌, ◌≤◌, ◌==◌, Bool, true, false, not, ◌&&◌, ◌||◌, refl, List, [], ◌∷◌, ◌++◌, length, Option, Some, None, IfSome, is_some, Result, Ok, IsTrue, nat_le, if◌then◌else◌, bytes_eq, codes, arith, ap, ◌∙◌, sym, subst, append-nil, append_assoc}
-use Rattle.std.proofs.lemmas.Bool.Decides.{nat_tests, Decides-eqb}
+use Rattle.std.proofs.Common.{◌≡◌, inl, inr, ℕ, ◌==◌, Bool, true, false, not, ◌&&◌, ◌||◌, refl, List, [], ◌∷◌, ◌++◌, length, Option, Some, None, IfSome, is_some, Result, Ok, IsTrue, nat_le, if◌then◌else◌, bytes_eq, codes, ap, ◌∙◌, sym, subst, append-nil, append_assoc}
+use Rattle.std.proofs.lemmas.Bool.{or_parts, or_from, le-leb, lt-leb}
+use Rattle.std.proofs.lemmas.Bool.Decides.{Decides-eqb}
+use Rattle.std.proofs.option.Match.{None-if_not_some}
 use Rattle.ccp_base.specs.declared.place.Place.{Place}
 use Rattle.ccp_base.specs.declared.operation.Op2.{Op2}
 use Rattle.portus_core.specs.declared.program.Var.{Var}
@@ -110,11 +112,8 @@ choice_given scope at v when_so value_at head condition value action p h =
     (then_given (walk.kind_walk scope (truth_of scope v) (node_place value) h.term) _ h.term _ (kind_given scope (truth_of scope v) (node_place value) h.term h.truth g.kind h.fits)
     (ap (λ a. Ok (a, scope)) (sym h.command)))))
 
-within_test : (a b : ℕ) → a ≤ b → nat_le a b ≡ true
-within_test a b h = grind (arith, nat_tests)
-
 weight_given : (node : Node) (n : ℕ) → IsWeight node n → walk.weight_walk node ≡ Ok n
-weight_given (number at m) n h = if_true (nat_le m 10) _ _ _ (ap (λ k. nat_le k 10) h.0 ∙ within_test n 10 h.1) (ap Ok h.0)
+weight_given (number at m) n h = if_true (nat_le m 10) _ _ _ (ap (λ k. nat_le k 10) h.0 ∙ le-leb n 10 h.1) (ap Ok h.0)
 weight_given (word at w) n h = absurd h
 weight_given (list at parts) n h = absurd h
 
@@ -162,20 +161,11 @@ micros_given scope at w value action after h =
     ∙ ap (λ a. Ok (a, scope)) (sym h.command)
     ∙ ap (λ s. Ok (action, s)) (sym h.names)
 
-some_of_five : (a b c d e : Bool) → (a || b || c || d || e) ≡ false → d ≡ false
-some_of_five false false false false e h = refl
-some_of_five false false false true e h = h
-some_of_five false false true d e h = absurd (cc)
-some_of_five false true c d e h = absurd (cc)
-some_of_five true b c d e h = absurd (cc)
-
-none_there : (o : Option Var) → is_some o ≡ false → o ≡ None
-none_there None h = refl
-none_there (Some v) h = absurd (cc)
-
 unreserved_variable : (w : List ℕ) → is_reserved w ≡ false → variable_of w ≡ None
 unreserved_variable w h =
-    none_there (variable_of w) (some_of_five (not (is_name_shaped w)) (is_heading w) (is_constant w) (is_some (variable_of w)) (is_some (operator_of w)) h)
+    let others = not (is_name_shaped w) || is_heading w || is_constant w in
+    let unnamed = (or_parts (others || is_some (variable_of w)) (is_some (operator_of w)) h).0 in
+    None-if_not_some (variable_of w) (or_parts others (is_some (variable_of w)) unnamed).1
 
 fresh_meaning : (scope : Scope) (w : List ℕ) → IsFresh scope w → meaning_of scope w ≡ None
 fresh_meaning scope w f =
@@ -184,19 +174,12 @@ fresh_meaning scope w f =
     ∙ ap (λ n. variable_or var.Control n (variable_or var.Local (local_from 0 scope.locals w) None)) (fresh_control scope w f)
     ∙ ap (λ n. variable_or var.Local n None) (fresh_local scope w f)
 
-unclaimed : (a b : Bool) → a ≡ false → b ≡ false → (a || b) ≡ false
-unclaimed false b e f = f
-unclaimed true b e f = e
-
 fresh_target : (scope : Scope) (at : Place) (w : List ℕ) → IsFresh scope w → walk.target_walk scope (word at w) ≡ Ok (Fresh at w)
 fresh_target scope at w f =
     ap (walk.word_target_walk scope at w) (unreserved_variable w f.unreserved)
     ∙ if_false (is_reserved w) _ _ _ f.unreserved
     (ap (walk.named_target_walk at w) (fresh_meaning scope w f)
-    ∙ if_false (is_field_use w || is_primitive_use w) _ _ _ (unclaimed _ _ f.no_field f.no_primitive) refl)
-
-room_test : (n : ℕ) → n < 8 → nat_le 8 n ≡ false
-room_test n h = grind (arith, nat_tests)
+    ∙ if_false (is_field_use w || is_primitive_use w) _ _ _ (or_from _ _ f.no_field f.no_primitive) refl)
 
 first_given : (scope : Scope) (at : Place) (w : List ℕ) (value : Node) (action : Action) (after : Scope) → IsProper scope → IsFirstAssignment scope w value action after → walk.assignment_walk scope (word at w) value ≡ Ok (action, after)
 first_given scope at w value action after p h =
@@ -204,7 +187,7 @@ first_given scope at w value action after p h =
     then_given (walk.target_walk scope (word at w)) _ (Fresh at w) _ (fresh_target scope at w h.fresh)
     (value_plain scope (Fresh at w) value h.term h.truth h.is_value
     ∙ then_given (expression_walk scope value) _ h.term _ g.gives
-    (if_false (nat_le 8 (length scope.locals)) _ _ _ (room_test _ h.few)
+    (if_false (nat_le 8 (length scope.locals)) _ _ _ (lt-leb 8 _ h.few)
     (ap (λ b. Ok (set (var.Local (length scope.locals)) h.term, with_local_name scope w b)) (sym g.kind)
     ∙ ap (λ a. Ok (a, with_local_name scope w h.truth)) (sym h.command)
     ∙ ap (λ s. Ok (action, s)) (sym h.names))))

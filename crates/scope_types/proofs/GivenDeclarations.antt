@@ -1,6 +1,7 @@
 -- Declarations that are well scoped and distinct are given by the walk over them.
 use Rattle.std.proofs.Common.{◌≡◌, inl, inr, ℕ, zero, suc, ◌<◌, ◌≤◌, Bool, true, false, not, refl, List, [], ◌∷◌, ◌++◌, length, Option, Some, None, is_some, Result, Ok, IsTrue, nat_le, slice_get, bytes_eq, codes, arith, ap, ◌∙◌, sym, subst, append-nil, append_assoc, length-append}
 use Rattle.std.proofs.lemmas.Bool.Decides.{nat_tests}
+use Rattle.std.proofs.lemmas.Option.{slice_get_within}
 use Rattle.ccp_base.specs.declared.place.Place.{Place}
 use Rattle.portus_core.specs.declared.program.Decl.{Decl}
 use Rattle.portus_core.specs.Trees.{Node, Nodes, none, more, number, word, list}
@@ -60,17 +61,12 @@ get_seam : {A : Type 0} (xs : List A) (x : A) (ys : List A) → slice_get (xs ++
 get_seam [] x ys = refl
 get_seam (z ∷ xs) x ys = get_seam xs x ys
 
-get_below : {A : Type 0} (xs : List A) (i : ℕ) (y : A) → slice_get xs i ≡ Some y → i < length xs
-get_below [] i y h = absurd (cc)
-get_below (x ∷ xs) zero y h = let n : 0 < length (x ∷ xs) = omega arith in n
-get_below (x ∷ xs) (suc i) y h = let k = get_below xs i y h in let n : suc i < length (x ∷ xs) = omega arith in n
-
 -- of distinct declarations none has the name of a later one
 distinct_new : (xs : List Decl) (x : Decl) (ys : List Decl) → AreDistinct (xs ++ x ∷ ys) → decl_from 0 xs x.name ≡ None
 distinct_new xs x ys h =
     nowhere (decl_from 0 xs x.name) _ (decl_found 0 xs x.name) (λ n f.
     let same : f.k ≡ length xs = h f.k (length xs) f.decl x (get_front xs (x ∷ ys) f.k f.decl f.there) (get_seam xs x ys) f.named in
-    let below = get_below xs f.k f.decl f.there in
+    let below = slice_get_within xs f.k f.decl f.there in
     omega arith)
 
 -- a list of at most 64 items has room in front of each
@@ -80,19 +76,16 @@ room_test xs x ys h =
     let k : length xs < 64 = omega arith in
     grind (arith, nat_tests)
 
-is_none : (o : Option ℕ) → o ≡ None → is_some o ≡ false
-is_none o e = ap is_some e
-
 field_given : (names : Scope) (at : Place) (x : Decl) (ys : List Decl) → IsTrue (is_field_name x.name) → AreDistinct (names.fields ++ x ∷ ys) → length (names.fields ++ x ∷ ys) ≤ 64 → walk.field_walk names (record { at = at; decl = x }) ≡ Ok (walk.with_field names x)
 field_given names at x ys right distinct few =
     if_false (not (is_field_name x.name)) _ _ _ (ap not right)
-    (if_false (is_some (decl_from 0 names.fields x.name)) _ _ _ (is_none _ (distinct_new names.fields x ys distinct))
+    (if_false (is_some (decl_from 0 names.fields x.name)) _ _ _ (ap is_some (distinct_new names.fields x ys distinct))
     (if_false (nat_le 64 (length names.fields)) _ _ _ (room_test names.fields x ys few) refl))
 
 control_given : (names : Scope) (at : Place) (x : Decl) (ys : List Decl) → IsTrue (is_control_name x.name) → AreDistinct (names.controls ++ x ∷ ys) → length (names.controls ++ x ∷ ys) ≤ 64 → walk.control_walk names (record { at = at; decl = x }) ≡ Ok (walk.with_control names x)
 control_given names at x ys right distinct few =
     if_false (not (is_control_name x.name)) _ _ _ (ap not right)
-    (if_false (is_some (decl_from 0 names.controls x.name)) _ _ _ (is_none _ (distinct_new names.controls x ys distinct))
+    (if_false (is_some (decl_from 0 names.controls x.name)) _ _ _ (ap is_some (distinct_new names.controls x ys distinct))
     (if_false (nat_le 64 (length names.controls)) _ _ _ (room_test names.controls x ys few) refl))
 
 abbrev with_fields : Scope → List Decl → Scope

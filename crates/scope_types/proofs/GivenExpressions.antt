@@ -1,6 +1,6 @@
 -- Names and expressions that are well scoped are given by the look-up and the walk over them.
-use Rattle.std.proofs.Common.{◌≡◌, ℕ, ◌<◌, ◌^◌, Bool, true, false, List, drop, Option, Some, None, IfSome, Result, Ok, Err, nat_lt, if◌then◌else◌, arith, ap, ◌∙◌, sym, subst}
-use Rattle.std.proofs.lemmas.Bool.Decides.{nat_tests}
+use Rattle.std.proofs.Common.{◌≡◌, ℕ, ◌^◌, Bool, true, false, List, drop, Option, Some, None, IfSome, Result, Ok, Err, if◌then◌else◌, ap, ◌∙◌, sym, subst}
+use Rattle.std.proofs.lemmas.Bool.{lt-ltb}
 use Rattle.ccp_base.specs.declared.place.Place.{Place}
 use Rattle.ccp_base.specs.declared.operation.Op2.{Op2}
 use Rattle.portus_core.specs.declared.program.Var.{Var}
@@ -8,8 +8,7 @@ use Rattle.portus_core.specs.declared.program.Var.TheVariants as var
 use Rattle.portus_core.specs.Programs.{Term, name, pair}
 use Rattle.portus_core.specs.Programs as term
 use Rattle.portus_core.specs.Trees.{Node, none, more, number, word, list}
-use Rattle.portus_core.specs.ValidPrograms.{term_is_truth, declares_truth, is_bool_there}
-use Rattle.scope_types.specs.declared.names.Local.{Local}
+use Rattle.portus_core.specs.ValidPrograms.{term_is_truth, declares_truth}
 use Rattle.scope_types.specs.declared.fault.ScopeFault.{ScopeFault}
 use Rattle.scope_types.specs.declared.fault.ScopeFault.TheVariants.{Unknown, Misplaced}
 use Rattle.portus_core.specs.Words.{variable_of, is_field_use, is_primitive_use}
@@ -20,7 +19,7 @@ use Rattle.scope_types.specs.Scope.{Scope, known_in}
 use Rattle.scope_types.specs.Names.{decl_from, local_from, variable_or, meaning_of}
 use Rattle.scope_types.specs.ExpressionWalk.{or_refused, name_walk, variable_walk, word_walk, pair_walk, expression_walk}
 use Rattle.scope_types.specs.ExpressionRules.{IsDeclaredName, IsField, IsLocal, IsPrimitive, Means, NamesVariable, IsWord, IsTerm}
-use Rattle.scope_types.proofs.ScopedExpressions.{truth_of, slice_get-map, IsControl, IsOwnLocal, IsProper, primitive_word, variable_kind, constant_kind}
+use Rattle.scope_types.proofs.ScopedExpressions.{truth_of, IsControl, IsOwnLocal, IsProper, primitive_word, variable_kind, constant_kind, local_truth}
 
 -- the look-up of a word gives this variable, of this kind
 pub record IsMeaning (scope : Scope) (w : List ℕ) (v : Var) (truth : Bool) : Type 0 where
@@ -59,7 +58,7 @@ local_given scope i w truth p f =
           ∙ ap (λ n. variable_or var.Prim n (variable_or var.Control (decl_from 0 scope.controls w) (variable_or var.Local (local_from 0 scope.locals w) None))) c.no_primitive
           ∙ ap (λ n. variable_or var.Control n (variable_or var.Local (local_from 0 scope.locals w) None)) c.no_control
           ∙ ap (λ n. variable_or var.Local n None) c.found;
-      kind = f.kind ∙ sym (slice_get-map scope.locals i ∙ ap (λ (o : Option Local). is_bool_there (let truth : Option Bool = elim o [ Some l ↦ Some l.truth | None ↦ None ] in truth)) f.there);
+      kind = f.kind ∙ sym (local_truth scope.locals i f.local f.there);
     }
 
 primitive_given : (scope : Scope) (n : ℕ) (w : List ℕ) (truth : Bool) → IsPrimitive n w truth → IsMeaning scope w (var.Prim n) truth
@@ -109,9 +108,6 @@ word_given scope at w None t truth p k h =
       kind = g.kind ∙ sym (ap (term_is_truth (known_in scope)) h.term);
     }
 
-below_test : (a b : ℕ) → a < b → nat_lt a b ≡ true
-below_test a b h = grind (arith, nat_tests)
-
 pair_given : (scope : Scope) (at head : Place) (op : Option Op2) (l r : Result Term ScopeFault) (o : Op2) (left right : Term) → op ≡ Some o → l ≡ Ok left → r ≡ Ok right → pair_walk at head op l r ≡ Ok (pair o head left right)
 pair_given scope at head op l r o left right e f g =
     ap (λ (x : Option Op2). pair_walk at head x l r) e
@@ -121,7 +117,7 @@ pair_given scope at head op l r o left right e f g =
 -- what is scoped, an expression's walk gives
 pub expression_given : (scope : Scope) (node : Node) (t : Term) (truth : Bool) → IsProper scope → IsTerm scope node t truth → IsGiven scope (expression_walk scope node) t truth
 expression_given scope (number at n) t truth p h = record {
-  gives = ap (λ b. if b then Ok (term.number n) else Err (Misplaced at)) (below_test n (2 ^ 64) h.0) ∙ ap Ok (sym h.1);
+  gives = ap (λ b. if b then Ok (term.number n) else Err (Misplaced at)) (lt-ltb n (2 ^ 64) h.0) ∙ ap Ok (sym h.1);
   kind = h.2 ∙ sym (ap (term_is_truth (known_in scope)) h.1);
 }
 expression_given scope (word at w) t truth p h = word_given scope at w (constant_of w) t truth p (constant_kind scope w) h

@@ -1,5 +1,6 @@
 -- A scope in which each name is found by its look-up stays so with one more local, field or control variable.
-use Rattle.std.proofs.Common.{◌≡◌, ◌⊎◌, inl, inr, ℕ, zero, suc, ◌+◌, Bool, true, false, refl, List, [], ◌∷◌, ◌++◌, length, Option, Some, None, IfSome, IsTrue, not, ◌||◌, slice_get, if◌then◌else◌, bytes_eq, arith, ap, ◌∙◌, sym}
+use Rattle.std.proofs.Common.{◌≡◌, ◌⊎◌, inl, inr, ℕ, zero, suc, ◌+◌, Bool, true, false, refl, List, [], ◌∷◌, ◌++◌, length, Option, Some, None, IfSome, IsTrue, ◌||◌, slice_get, if◌then◌else◌, bytes_eq, arith, ap, ◌∙◌, sym}
+use Rattle.std.proofs.lemmas.Bool.{or_parts, not-true}
 use Rattle.portus_core.specs.declared.program.Decl.{Decl}
 use Rattle.portus_core.specs.declared.program.Var.TheVariants as var
 use Rattle.scope_types.specs.declared.names.Local.{Local}
@@ -107,14 +108,11 @@ pub record IsControlWord (w : List ℕ) : Type 0 where
   pub no_field : is_field_use w ≡ false
   pub no_primitive_use : is_primitive_use w ≡ false
 
-control_from : (a b c : Bool) → not (a || b || c) ≡ true → (a ≡ false) × (b ≡ false) × (c ≡ false)
-control_from false false false h = (refl, refl, refl)
-control_from false false true h = absurd (cc)
-control_from false true c h = absurd (cc)
-control_from true b c h = absurd (cc)
-
 pub control_word : (w : List ℕ) → IsTrue (is_control_name w) → IsControlWord w
-control_word w h = let f = control_from (is_reserved w) (is_field_use w) (is_primitive_use w) h in record { unreserved = f.0; no_field = f.1; no_primitive_use = f.2 }
+control_word w h =
+    let others = or_parts (is_reserved w || is_field_use w) (is_primitive_use w) (not-true _ h) in
+    let first = or_parts (is_reserved w) (is_field_use w) others.0 in
+    record { unreserved = first.0; no_field = first.1; no_primitive_use = others.1 }
 
 control_no_primitive : (w : List ℕ) → IsControlWord w → primitive_named w ≡ None
 control_no_primitive w c = nowhere (primitive_named w) _ (primitive_word w) (λ n a. let e : false ≡ true = sym c.no_primitive_use ∙ a.1 in cc)

@@ -1,5 +1,5 @@
 -- What holds of the answers of a choice, and of two walks one after the other.
-use Rattle.std.proofs.Common.{◌≡◌, Bool, true, false, ◌&&◌, refl, Result, Ok, Err, IfOk, IfErr, if◌then◌else◌}
+use Rattle.std.proofs.Common.{◌≡◌, Bool, true, false, refl, Result, Ok, Err, IfOk, if◌then◌else◌}
 use Rattle.scope_types.specs.WalkResults.{and_then}
 
 -- what holds of a choice's answer holds in each branch
@@ -11,16 +11,3 @@ if_ok false r s P f g = g refl
 pub then_ok : {A B E : Type 0} (r : Result A E) (walk : A → Result B E) (P : A → Type 0) (Q : B → Type 0) → IfOk r P → ((a : A) → P a → IfOk (walk a) Q) → IfOk (and_then r walk) Q
 then_ok (Ok a) walk P Q p f = f a p
 then_ok (Err e) walk P Q p f = tt
-
-pub both_true : (a b : Bool) → a ≡ true → b ≡ true → (a && b) ≡ true
-both_true true true p q = refl
-both_true true false p q = q
-both_true false b p q = p
-
-pub ok_map : {A E : Type 0} (r : Result A E) (P Q : A → Type 0) → IfOk r P → ((a : A) → P a → Q a) → IfOk r Q
-ok_map (Ok a) P Q p f = f a p
-ok_map (Err e) P Q p f = tt
-
-pub err_map : {A E : Type 0} (r : Result A E) (P Q : E → Type 0) → IfErr r P → ((e : E) → P e → Q e) → IfErr r Q
-err_map (Ok a) P Q p f = tt
-err_map (Err e) P Q p f = f e p

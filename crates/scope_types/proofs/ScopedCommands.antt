@@ -1,6 +1,8 @@
 -- What the walk over commands gives is well scoped, and keeps a scope in order.
-use Rattle.std.proofs.Common.{◌≡◌, ◌⊎◌, inl, inr, ℕ, ◌<◌, ◌≤◌, ◌==◌, Bool, true, false, not, ◌&&◌, ◌||◌, refl, List, [], ◌∷◌, ◌++◌, length, Option, Some, None, IfSome, IfOk, IsTrue, IsFalse, nat_le, bytes_eq, codes, arith, ap, ◌∙◌, sym, subst, append-nil, append_assoc}
-use Rattle.std.proofs.lemmas.Bool.Decides.{nat_tests, Decides-eqb}
+use Rattle.std.proofs.Common.{◌≡◌, ◌⊎◌, inl, inr, ℕ, ◌==◌, Bool, true, false, not, ◌&&◌, ◌||◌, refl, List, [], ◌∷◌, ◌++◌, length, Option, Some, None, IfSome, IfOk, IsTrue, IsFalse, nat_le, bytes_eq, codes, ap, ◌∙◌, sym, subst, append-nil, append_assoc}
+use Rattle.std.proofs.lemmas.Bool.{or_parts, leb-true, leb-false}
+use Rattle.std.proofs.lemmas.Bool.Decides.{Decides-eqb}
+use Rattle.std.proofs.lemmas.Result.{IfOk-weaker}
 use Rattle.ccp_base.specs.declared.place.Place.{Place}
 use Rattle.portus_core.specs.declared.program.Var.{Var}
 use Rattle.portus_core.specs.declared.program.Var.TheVariants as var
@@ -16,7 +18,7 @@ use Rattle.scope_types.specs.ExpressionWalk.{expression_walk}
 use Rattle.scope_types.specs.CommandWalk as walk
 use Rattle.scope_types.specs.ExpressionRules.{Means, NamesVariable, IsTerm}
 use Rattle.scope_types.specs.CommandRules.{FitsKind, IsPlain, IsChoice, IsWeight, IsEwma, IsValue, IsFresh, IsFirstAssignment, IsAssignment, IsCommand, IsBody}
-use Rattle.scope_types.proofs.Results.{if_ok, then_ok, ok_map}
+use Rattle.scope_types.proofs.Results.{if_ok, then_ok}
 use Rattle.scope_types.proofs.ScopedExpressions.{truth_of, some_case, spelt, meaning_means, expression_scoped, IsProper}
 use Rattle.scope_types.proofs.GivenExpressions.{meaning_given}
 use Rattle.scope_types.proofs.ProperScopes.{proper_with_local}
@@ -55,10 +57,6 @@ language_target scope at w (var.Prim n) h = absurd h
 not_some : (scope : Scope) (w : List ℕ) (v : Var) (truth : Bool) → IsProper scope → meaning_of scope w ≡ None → Means scope w v truth → ⊥
 not_some scope w v truth p e m = let g = meaning_given scope w v truth p m in let f : None ≡ Some v = sym e ∙ g.gives in cc
 
-unclaimed : (a b : Bool) → (a || b) ≡ false → (a ≡ false) × (b ≡ false)
-unclaimed false b h = (refl, h)
-unclaimed true b h = absurd (cc)
-
 meaning_target : (scope : Scope) (at : Place) (w : List ℕ) (o : Option Var) → IsProper scope → IsFalse (is_reserved w) → meaning_of scope w ≡ o → IfSome o (λ v. Means scope w v (truth_of scope v)) → IfOk (walk.named_target_walk at w o) (TargetIs scope w None)
 meaning_target scope at w (Some (var.Prim n)) p k e m = tt
 meaning_target scope at w (Some (var.Field i)) p k e m = ((k, m), refl)
@@ -69,7 +67,7 @@ meaning_target scope at w (Some var.Rate) p k e m = absurd m
 meaning_target scope at w (Some var.Micros) p k e m = absurd m
 meaning_target scope at w None p k e m =
     if_ok (is_field_use w || is_primitive_use w) _ _ _ (λ _. tt) (λ h.
-    let u = unclaimed (is_field_use w) (is_primitive_use w) h in
+    let u = or_parts (is_field_use w) (is_primitive_use w) h in
     (refl, record { unreserved = k; no_field = u.0; no_primitive = u.1; unknown = λ v truth means. not_some scope w v truth p e means }))
 
 word_target : (scope : Scope) (at : Place) (w : List ℕ) (lang : Option Var) → IsProper scope → IfSome lang (IsLanguage w) → IfOk (walk.word_target_walk scope at w lang) (TargetIs scope w lang)
@@ -102,7 +100,7 @@ plain_scoped scope at v value =
     (record { term = t; truth = _; is_value = h; fits = k.fits; command = ap (set v) k.same }, refl)))
 
 plain_assigned : (scope : Scope) (at : Place) (v : Var) (value : Node) → IfOk (walk.plain_assignment_walk scope (Meant at v) value) (IsAssigned scope v value)
-plain_assigned scope at v value = ok_map (walk.plain_assignment_walk scope (Meant at v) value) _ _ (plain_scoped scope at v value) (λ step h. (inl h.0, h.1))
+plain_assigned scope at v value = IfOk-weaker (walk.plain_assignment_walk scope (Meant at v) value) _ _ (λ step h. (inl h.0, h.1)) (plain_scoped scope at v value)
 
 pub kind_true : (scope : Scope) (node : Node) (t found : Term) → IsTerm scope node t (term_is_truth (known_in scope) t) → IsKind scope true t found → IsTerm scope node found true
 kind_true scope node t found h k =
@@ -126,11 +124,8 @@ choice_scoped scope at v when_so value_at head condition value =
       refl,
     )))))
 
-within_fact : (a b : ℕ) → nat_le a b ≡ true → a ≤ b
-within_fact a b h = grind (arith, nat_tests)
-
 weight_scoped : (node : Node) → IfOk (walk.weight_walk node) (IsWeight node)
-weight_scoped (number at n) = if_ok (nat_le n 10) _ _ _ (λ h. (refl, within_fact n 10 h)) (λ _. tt)
+weight_scoped (number at n) = if_ok (nat_le n 10) _ _ _ (λ h. (refl, leb-true n 10 h)) (λ _. tt)
 weight_scoped (word at w) = tt
 weight_scoped (list at parts) = tt
 
@@ -148,14 +143,14 @@ ewma_scoped scope at v value_at head weight value =
 special_scoped : (scope : Scope) (at : Place) (v : Var) (value_at head : Place) (w : List ℕ) (parts : Nodes) → IfOk (walk.value_walk scope (Meant at v) (list value_at (more (word head w) parts))) (IsAssigned scope v (list value_at (more (word head w) parts)))
 special_scoped scope at v value_at head w (more first (more second none)) =
     if_ok (bytes_eq w (codes "if")) _ _ _
-    (λ h. ok_map (walk.choice_walk scope (Meant at v) true value_at head (more first (more second none))) _ _ (choice_scoped scope at v true value_at head first second)
-    (λ step c. (inr (inl (spelt w (codes "if") h, c.0)), c.1))) (λ _.
+    (λ h. IfOk-weaker (walk.choice_walk scope (Meant at v) true value_at head (more first (more second none))) _ _ (λ step c. (inr (inl (spelt w (codes "if") h, c.0)), c.1))
+    (choice_scoped scope at v true value_at head first second)) (λ _.
     if_ok (bytes_eq w (codes "!if")) _ _ _
-    (λ h. ok_map (walk.choice_walk scope (Meant at v) false value_at head (more first (more second none))) _ _ (choice_scoped scope at v false value_at head first second)
-    (λ step c. (inr (inr (inl (spelt w (codes "!if") h, c.0))), c.1))) (λ _.
+    (λ h. IfOk-weaker (walk.choice_walk scope (Meant at v) false value_at head (more first (more second none))) _ _ (λ step c. (inr (inr (inl (spelt w (codes "!if") h, c.0))), c.1))
+    (choice_scoped scope at v false value_at head first second)) (λ _.
     if_ok (bytes_eq w (codes "ewma")) _ _ _
-    (λ h. ok_map (walk.ewma_walk scope (Meant at v) value_at head (more first (more second none))) _ _ (ewma_scoped scope at v value_at head first second)
-    (λ step c. (inr (inr (inr (spelt w (codes "ewma") h, c.0))), c.1))) (λ _.
+    (λ h. IfOk-weaker (walk.ewma_walk scope (Meant at v) value_at head (more first (more second none))) _ _ (λ step c. (inr (inr (inr (spelt w (codes "ewma") h, c.0))), c.1))
+    (ewma_scoped scope at v value_at head first second)) (λ _.
     plain_assigned scope at v (list value_at (more (word head w) (more first (more second none)))))))
 special_scoped scope at v value_at head w parts =
     if_ok (bytes_eq w (codes "if")) _ _ _ (λ _. tt) (λ _.
@@ -171,14 +166,11 @@ value_scoped scope at v (list value_at (more (list a ps) parts)) = plain_assigne
 value_scoped scope at v (word value_at w) = plain_assigned scope at v (word value_at w)
 value_scoped scope at v (number value_at n) = plain_assigned scope at v (number value_at n)
 
-room_fact : (n : ℕ) → nat_le 8 n ≡ false → n < 8
-room_fact n h = grind (arith, nat_tests)
-
 first_scoped : (scope : Scope) (at : Place) (w : List ℕ) (value : Node) → IsFresh scope w → IfOk (walk.plain_assignment_walk scope (Fresh at w) value) (λ step. IsFirstAssignment scope w value step.0 step.1)
 first_scoped scope at w value f =
     then_ok (expression_walk scope value) _ _ _ (expression_scoped scope value) (λ t h.
     if_ok (nat_le 8 (length scope.locals)) _ _ _ (λ _. tt) (λ k.
-    record { fresh = f; term = t; truth = _; is_value = h; few = room_fact _ k; command = refl; names = refl }))
+    record { fresh = f; term = t; truth = _; is_value = h; few = leb-false 8 _ k; command = refl; names = refl }))
 
 refused_choice : (scope : Scope) (at : Place) (w : List ℕ) (value : Node) (when_so : Bool) (value_at head : Place) (parts : Nodes) → IfOk (walk.choice_walk scope (Fresh at w) when_so value_at head parts) (λ step. IsFirstAssignment scope w value step.0 step.1)
 refused_choice scope at w value when_so value_at head (more condition (more rest none)) = tt
@@ -212,8 +204,8 @@ micros_scoped scope w (list at parts) e = tt
 
 known_assignment : (scope : Scope) (w : List ℕ) (at : Place) (v : Var) (value : Node) → NamesVariable scope w (variable_of w) v (truth_of scope v) → IsTrue (is_writable v) → IfOk (walk.value_walk scope (Meant at v) value) (AssignmentIs scope w value)
 known_assignment scope w at v value n h =
-    ok_map (walk.value_walk scope (Meant at v) value) _ _ (value_scoped scope at v value)
-    (λ step a. inr (inl (record { variable = v; truth = _; named = n; writable = h; assigned = a.0; names = a.1 })))
+    IfOk-weaker (walk.value_walk scope (Meant at v) value) _ _ (λ step a. inr (inl (record { variable = v; truth = _; named = n; writable = h; assigned = a.0; names = a.1 })))
+    (value_scoped scope at v value)
 
 assigned_scoped : (scope : Scope) (w : List ℕ) (target : Target) (value : Node) → TargetIs scope w (variable_of w) target → IfOk (walk.assigned_walk scope target value) (AssignmentIs scope w value)
 assigned_scoped scope w (Meant at var.Micros) value h = micros_scoped scope w value h
@@ -224,9 +216,9 @@ assigned_scoped scope w (Meant at (var.Prim n)) value h = known_assignment scope
 assigned_scoped scope w (Meant at var.Cwnd) value h = known_assignment scope w at var.Cwnd value h.0 h.1
 assigned_scoped scope w (Meant at var.Rate) value h = known_assignment scope w at var.Rate value h.0 h.1
 assigned_scoped scope w (Fresh at u) value h =
-    ok_map (walk.value_walk scope (Fresh at u) value) _ _
-    (fresh_scoped scope at u value (subst (IsFresh scope) (sym h.0) h.1))
+    IfOk-weaker (walk.value_walk scope (Fresh at u) value) _ _
     (λ step a. inr (inr (subst (λ x. IsFirstAssignment scope x value step.0 step.1) h.0 a)))
+    (fresh_scoped scope at u value (subst (IsFresh scope) (sym h.0) h.1))
 
 assignment_scoped : (scope : Scope) (at : Place) (w : List ℕ) (value : Node) → IsProper scope → IfOk (walk.assignment_walk scope (word at w) value) (AssignmentIs scope w value)
 assignment_scoped scope at w value p =
@@ -249,7 +241,7 @@ command_scoped scope (list at (more (word head w) none)) p =
     if_ok (bytes_eq w (codes "fallthrough")) _ _ _ (λ h. inr (spelt w (codes "fallthrough") h, refl, refl)) (λ _. tt))
 command_scoped scope (list at (more (word head w) (more (word target_at target) (more value none)))) p =
     if_ok (bytes_eq w (codes ":=") || bytes_eq w (codes "bind")) _ _ _
-    (λ h. ok_map (walk.assignment_walk scope (word target_at target) value) _ _ (assignment_scoped scope target_at target value p) (λ step a. (assigner w h, a)))
+    (λ h. IfOk-weaker (walk.assignment_walk scope (word target_at target) value) _ _ (λ step a. (assigner w h, a)) (assignment_scoped scope target_at target value p))
     (λ _. tt)
 command_scoped scope (list at (more (word head w) (more (number a n) (more value none)))) p =
     if_ok (bytes_eq w (codes ":=") || bytes_eq w (codes "bind")) _ _ _ (λ _. tt) (λ _. tt)
@@ -282,9 +274,9 @@ pub body_scoped : (scope : Scope) (done : List Action) (nodes : Nodes) → IsPro
 body_scoped scope done none p = record { rest = []; whole = sym (append-nil done); scoped = refl }
 body_scoped scope done (more node rest) p =
     then_ok (walk.command_walk scope node) _ _ _ (command_scoped scope node p) (λ step c.
-    ok_map (walk.body_walk step.1 (done ++ step.0 ∷ []) rest) _ _ (body_scoped step.1 (done ++ step.0 ∷ []) rest (command_proper scope node step.0 step.1 p c))
-    (λ body r. record {
+    IfOk-weaker (walk.body_walk step.1 (done ++ step.0 ∷ []) rest) _ _ (λ body r. record {
       rest = step.0 ∷ r.rest;
       whole = r.whole ∙ append_assoc done (step.0 ∷ []) r.rest;
       scoped = record { between = step.1; command = c; rest = r.scoped };
-    }))
+    })
+    (body_scoped step.1 (done ++ step.0 ∷ []) rest (command_proper scope node step.0 step.1 p c)))

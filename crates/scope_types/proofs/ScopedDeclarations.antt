@@ -1,5 +1,8 @@
 -- What the walk over the parts of `def` gives is well scoped.
 use Rattle.std.proofs.Common.{◌≡◌, ◌⊎◌, inl, inr, ℕ, Bool, true, false, not, refl, List, [], ◌∷◌, ◌++◌, length, Option, Some, None, IfSome, is_some, IfOk, IsTrue, nat_le, bytes_eq, codes, ap, ◌∙◌, sym, subst, append-nil, append_assoc}
+use Rattle.std.proofs.lemmas.Bool.{not-false}
+use Rattle.std.proofs.lemmas.Result.{IfOk-weaker}
+use Rattle.std.proofs.option.Match.{None-if_not_some}
 use Rattle.ccp_base.specs.declared.place.Place.{Place}
 use Rattle.portus_core.specs.declared.program.Decl.{Decl}
 use Rattle.portus_core.specs.Trees.{Node, Nodes, none, more, number, word, list}
@@ -10,7 +13,7 @@ use Rattle.scope_types.specs.Scope.{Scope}
 use Rattle.scope_types.specs.Names.{decl_from}
 use Rattle.scope_types.specs.DeclarationWalk as walk
 use Rattle.scope_types.specs.DeclarationRules.{IsStart, IsDeclarationOf, Declares, AreFields, IsGroup, AreParts}
-use Rattle.scope_types.proofs.Results.{if_ok, then_ok, ok_map}
+use Rattle.scope_types.proofs.Results.{if_ok, then_ok}
 use Rattle.scope_types.proofs.ScopedExpressions.{some_case, spelt, IsProper}
 use Rattle.scope_types.proofs.ProperScopes.{proper_with_field, proper_with_control}
 
@@ -30,7 +33,7 @@ declaration_scoped : (node : Node) → IfOk (walk.declaration_walk node) (λ d. 
 declaration_scoped (list at (more (word word_at w) (more value none))) = declares_scoped at false word_at w value (walk.declared_start value) (start_scoped value)
 declaration_scoped (list at (more (word head v) (more (word word_at w) (more value none)))) =
     if_ok (bytes_eq v (codes "volatile")) _ _ _
-    (λ h. ok_map (walk.declares at true word_at w (walk.declared_start value)) _ _ (declares_scoped at true word_at w value (walk.declared_start value) (start_scoped value)) (λ d k. (spelt v (codes "volatile") h, k)))
+    (λ h. IfOk-weaker (walk.declares at true word_at w (walk.declared_start value)) _ _ (λ d k. (spelt v (codes "volatile") h, k)) (declares_scoped at true word_at w value (walk.declared_start value) (start_scoped value)))
     (λ _. tt)
 declaration_scoped node = tt
 
@@ -40,27 +43,19 @@ record AddsOne (allowed : List ℕ → Bool) (decls : List Decl) (add : Decl →
   new : decl_from 0 decls d.decl.name ≡ None
   whole : after ≡ add d.decl
 
-none_there : (o : Option ℕ) → is_some o ≡ false → o ≡ None
-none_there None h = refl
-none_there (Some n) h = absurd (cc)
-
-allowed_from : (b : Bool) → not b ≡ false → b ≡ true
-allowed_from true h = refl
-allowed_from false h = absurd (cc)
-
 field_scoped : (names : Scope) (d : Declaration) → IfOk (walk.field_walk names d) (AddsOne is_field_name names.fields (walk.with_field names) d)
 field_scoped names d =
     if_ok (not (is_field_name d.decl.name)) _ _ _ (λ _. tt) (λ right.
     if_ok (is_some (decl_from 0 names.fields d.decl.name)) _ _ _ (λ _. tt) (λ new.
     if_ok (nat_le 64 (length names.fields)) _ _ _ (λ _. tt) (λ _.
-    record { right = allowed_from _ right; new = none_there _ new; whole = refl })))
+    record { right = not-false _ right; new = None-if_not_some _ new; whole = refl })))
 
 control_scoped : (names : Scope) (d : Declaration) → IfOk (walk.control_walk names d) (AddsOne is_control_name names.controls (walk.with_control names) d)
 control_scoped names d =
     if_ok (not (is_control_name d.decl.name)) _ _ _ (λ _. tt) (λ right.
     if_ok (is_some (decl_from 0 names.controls d.decl.name)) _ _ _ (λ _. tt) (λ new.
     if_ok (nat_le 64 (length names.controls)) _ _ _ (λ _. tt) (λ _.
-    record { right = allowed_from _ right; new = none_there _ new; whole = refl })))
+    record { right = not-false _ right; new = None-if_not_some _ new; whole = refl })))
 
 -- the fields of a group after those that are there
 record AddsFields (names : Scope) (nodes : Nodes) (after : Scope) : Type 0 where
@@ -86,8 +81,8 @@ fields_scoped names none p = record { fresh = []; fields = sym (append-nil names
 fields_scoped names (more node rest) p =
     then_ok (walk.declaration_walk node) _ _ _ (declaration_scoped node) (λ d h.
     then_ok (walk.field_walk names d) _ _ _ (field_scoped names d) (λ between one.
-    ok_map (walk.fields_walk between rest) _ _ (fields_scoped between rest (subst IsProper (sym one.whole) (proper_with_field names d.decl p one.new)))
-    (λ after r. more_fields names node rest d between after h one r)))
+    IfOk-weaker (walk.fields_walk between rest) _ _ (λ after r. more_fields names node rest d between after h one r)
+    (fields_scoped between rest (subst IsProper (sym one.whole) (proper_with_field names d.decl p one.new)))))
 
 -- what the parts of `def` add to what is there
 pub record AddsParts (declared : walk.Declaring) (nodes : Nodes) (after : walk.Declaring) : Type 0 where
@@ -198,5 +193,5 @@ parts_scoped declared none p e = record {
 }
 parts_scoped declared (more node rest) p e =
     then_ok (walk.part_walk declared node) _ _ _ (part_scoped declared node p) (λ between s.
-    ok_map (walk.parts_walk between rest) _ _ (parts_scoped between rest (step_proper declared node between p e s) (step_locals declared node between e s))
-    (λ after r. step_parts declared node rest between after s r))
+    IfOk-weaker (walk.parts_walk between rest) _ _ (λ after r. step_parts declared node rest between after s r)
+    (parts_scoped between rest (step_proper declared node between p e s) (step_locals declared node between e s)))

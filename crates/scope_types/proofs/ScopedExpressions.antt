@@ -1,7 +1,11 @@
 -- What the look-up of a word and the walk over an expression give is well scoped.
-use Rattle.std.proofs.Common.{◌≡◌, ℕ, zero, suc, ◌+◌, ◌<◌, ◌^◌, Bool, true, false, not, ◌&&◌, refl, length, get_or, List, [], ◌∷◌, ◌++◌, map, drop, Option, Some, None, IfSome, Result, Ok, Err, IfOk, nat_lt, slice_get, if◌then◌else◌, bytes_eq, codes, arith, ap, ◌∙◌, sym, subst}
+use Rattle.std.proofs.Common.{◌≡◌, ℕ, suc, ◌+◌, ◌<◌, ◌^◌, Bool, true, false, not, ◌&&◌, refl, get_or, List, [], ◌∷◌, ◌++◌, map, drop, Option, Some, None, IfSome, Result, Ok, Err, IfOk, nat_lt, slice_get, if◌then◌else◌, bytes_eq, codes, arith, ap, ◌∙◌, sym, subst, option_map}
 use Rattle.std.specs.List.{list_all}
+use Rattle.std.proofs.lemmas.List.Sums.{AllPass-from_list_all}
 use Rattle.std.proofs.lemmas.List.Quantifiers.{position-Some}
+use Rattle.std.proofs.lemmas.Bool.{and_parts, not-true, ltb-true}
+use Rattle.std.proofs.lemmas.Option.{IfSome_then, slice_get-map}
+use Rattle.std.proofs.lemmas.Result.{IfOk-weaker}
 use Rattle.std.proofs.lemmas.Bool.Decides.{nat_tests, Decides-eqb}
 use Rattle.std.proofs.lemmas.Slice.Eq.{bytes_eq-Decides, starts_is}
 use Rattle.ccp_base.specs.declared.place.Place.{Place}
@@ -25,7 +29,7 @@ use Rattle.scope_types.specs.Scope.{Scope, known_in}
 use Rattle.scope_types.specs.Names.{decl_from, local_from, variable_or, meaning_of}
 use Rattle.scope_types.specs.ExpressionWalk.{or_refused, name_walk, variable_walk, word_walk, pair_walk, expression_walk}
 use Rattle.scope_types.specs.ExpressionRules.{IsDeclaredName, IsField, IsLocal, IsPrimitive, Means, NamesVariable, IsName, IsWord, IsPair, IsTerm}
-use Rattle.scope_types.proofs.Results.{if_ok, ok_map}
+use Rattle.scope_types.proofs.Results.{if_ok}
 
 -- a test of two texts says whether they are one
 pub spelt : (a b : List ℕ) → bytes_eq a b ≡ true → a ≡ b
@@ -34,26 +38,10 @@ spelt a b h = (bytes_eq-Decides a b).0 h
 pub spells : (a b : List ℕ) → a ≡ b → bytes_eq a b ≡ true
 spells a b e = (bytes_eq-Decides a b).1 e
 
-pub some_mono : {A : Type 0} (r : Option A) (P Q : A → Type 0) → IfSome r P → ((a : A) → P a → Q a) → IfSome r Q
-some_mono (Some a) P Q p f = f a p
-some_mono None P Q p f = tt
-
 -- the choice of `if_some`, with what the test says
 pub some_case : {A : Type 0} (b : Bool) (r s : Option A) (P : A → Type 0) → (b ≡ true → IfSome r P) → (b ≡ false → IfSome s P) → IfSome (if b then r else s) P
 some_case true r s P f g = f refl
 some_case false r s P f g = g refl
-
-first_of : (a b : Bool) → (a && b) ≡ true → a ≡ true
-first_of true b h = refl
-first_of false b h = h
-
-rest_of : (a b : Bool) → (a && b) ≡ true → b ≡ true
-rest_of true b h = h
-rest_of false b h = absurd (cc)
-
-from_not : (b : Bool) → not b ≡ true → b ≡ false
-from_not false h = refl
-from_not true h = absurd (cc)
 
 -- a declaration of the name, counted from `i`
 pub record IsFound (i : ℕ) (decls : List Decl) (w : List ℕ) (n : ℕ) : Type 0 where
@@ -68,7 +56,7 @@ decl_found i [] w = tt
 decl_found i (d ∷ ds) w =
     some_case (bytes_eq d.name w) _ _ _
     (λ h. record { k = 0; at = omega arith; decl = d; there = refl; named = spelt d.name w h })
-    (λ _. some_mono (decl_from (i + 1) ds w) _ _ (decl_found (i + 1) ds w)
+    (λ _. IfSome_then (decl_from (i + 1) ds w) (decl_found (i + 1) ds w)
     (λ n f. record { k = suc f.k; at = let e = f.at in omega arith; decl = f.decl; there = f.there; named = f.named }))
 
 -- the local of the name, counted from `i`
@@ -84,7 +72,7 @@ local_found i [] w = tt
 local_found i (l ∷ ls) w =
     some_case (bytes_eq l.name w) _ _ _
     (λ h. record { k = 0; at = omega arith; local = l; there = refl; named = spelt l.name w h })
-    (λ _. some_mono (local_from (i + 1) ls w) _ _ (local_found (i + 1) ls w)
+    (λ _. IfSome_then (local_from (i + 1) ls w) (local_found (i + 1) ls w)
     (λ n f. record { k = suc f.k; at = let e = f.at in omega arith; local = f.local; there = f.there; named = f.named }))
 
 -- whether the variable is a Bool
@@ -97,16 +85,15 @@ declared_of ds w n f =
     let there : slice_get ds n ≡ Some f.decl = ap (slice_get ds) e ∙ f.there in
     record { decl = f.decl; there = there; named = f.named; kind = ap declares_truth there }
 
-pub slice_get-map : (ls : List Local) (n : ℕ) → is_bool_there (slice_get (map (λ (l : Local). l.truth) ls) n) ≡ is_bool_there (let truth : Option Bool = elim (slice_get ls n) [ Some l ↦ Some l.truth | None ↦ None ] in truth)
-slice_get-map [] n = refl
-slice_get-map (l ∷ ls) zero = refl
-slice_get-map (l ∷ ls) (suc n) = slice_get-map ls n
+-- whether the local at a place is a Bool
+pub local_truth : (ls : List Local) (n : ℕ) (l : Local) → slice_get ls n ≡ Some l → is_bool_there (slice_get (map (λ (l : Local). l.truth) ls) n) ≡ l.truth
+local_truth ls n l there = ap is_bool_there (slice_get-map (λ (l : Local). l.truth) ls n ∙ ap (option_map (λ (l : Local). l.truth)) there)
 
 pub local_of : (ls : List Local) (w : List ℕ) (n : ℕ) → IsFoundLocal 0 ls w n → IsLocal ls n w (is_bool_there (slice_get (map (λ (l : Local). l.truth) ls) n))
 local_of ls w n f =
     let e : n ≡ f.k = let at = f.at in omega arith in
     let there : slice_get ls n ≡ Some f.local = ap (slice_get ls) e ∙ f.there in
-    record { local = f.local; there = there; named = f.named; kind = slice_get-map ls n ∙ ap (λ (o : Option Local). is_bool_there (let truth : Option Bool = elim o [ Some l ↦ Some l.truth | None ↦ None ] in truth)) there }
+    record { local = f.local; there = there; named = f.named; kind = local_truth ls n f.local there }
 
 pub variable_or_means : (P : Var → Type 0) (kind : ℕ → Var) (n : Option ℕ) (rest : Option Var) → IfSome n (λ i. P (kind i)) → IfSome rest P → IfSome (variable_or kind n rest) P
 variable_or_means P kind (Some i) rest p q = p
@@ -118,7 +105,7 @@ prim_means w None e = tt
 
 field_means : (ds : List Decl) (w : List ℕ) → w ≡ codes "Report." ++ drop 7 w → IfSome (decl_from 0 ds (drop 7 w)) (λ i. IsField ds i w (declares_truth (slice_get ds i)))
 field_means ds w e =
-    some_mono (decl_from 0 ds (drop 7 w)) _ _ (decl_found 0 ds (drop 7 w))
+    IfSome_then (decl_from 0 ds (drop 7 w)) (decl_found 0 ds (drop 7 w))
     (λ i f. record { rest = drop 7 w; spelt = e; declared = declared_of ds (drop 7 w) i f })
 
 -- what a word's look-up gives, the word means
@@ -129,9 +116,9 @@ meaning_means scope w =
     (λ h. variable_or_means P var.Field (decl_from 0 scope.fields (drop 7 w)) None (field_means scope.fields w ((starts_is Decides-eqb w (codes "Report.") (is_field_use w) refl).0 h)) tt)
     (λ _. variable_or_means P var.Prim (primitive_named w) _ (prim_means w (primitive_named w) refl)
     (variable_or_means P var.Control (decl_from 0 scope.controls w) _
-    (some_mono (decl_from 0 scope.controls w) _ _ (decl_found 0 scope.controls w) (λ i f. declared_of scope.controls w i f))
+    (IfSome_then (decl_from 0 scope.controls w) (decl_found 0 scope.controls w) (λ i f. declared_of scope.controls w i f))
     (variable_or_means P var.Local (local_from 0 scope.locals w) None
-    (some_mono (local_from 0 scope.locals w) _ _ (local_found 0 scope.locals w) (λ i f. local_of scope.locals w i f)) tt)))
+    (IfSome_then (local_from 0 scope.locals w) (local_found 0 scope.locals w) (λ i f. local_of scope.locals w i f)) tt)))
 
 pub variable_kind : (scope : Scope) (w : List ℕ) → IfSome (variable_of w) (λ v. truth_of scope v ≡ false)
 variable_kind scope w = grind (arith, nat_tests)
@@ -147,7 +134,7 @@ variable_names : (scope : Scope) (at : Place) (w : List ℕ) (lang : Option Var)
 variable_names scope at w (Some v) h = (refl, h)
 variable_names scope at w None h =
     if_ok (is_reserved w) _ _ _ (λ _. tt)
-    (λ k. ok_map (or_refused (meaning_of scope w) (Unknown at)) _ _ (refused_means scope w (meaning_of scope w) (Unknown at) (meaning_means scope w)) (λ v m. (k, m)))
+    (λ k. IfOk-weaker (or_refused (meaning_of scope w) (Unknown at)) _ _ (λ v m. (k, m)) (refused_means scope w (meaning_of scope w) (Unknown at) (meaning_means scope w)))
 
 name_scoped : (scope : Scope) (w : List ℕ) (v : Result Var ScopeFault) → IfOk v (λ v. NamesVariable scope w (variable_of w) v (truth_of scope v)) → IfOk (name_walk v) (λ t. IsName scope w t (term_is_truth (known_in scope) t))
 name_scoped scope w (Ok v) h = record { variable = v; names = h; term = refl }
@@ -174,12 +161,9 @@ pair_scoped scope at head (Some op) Left Right (Ok l) (Ok r) p q = record {
   kind = refl;
 }
 
-below_fact : (a b : ℕ) → nat_lt a b ≡ true → a < b
-below_fact a b h = grind (arith, nat_tests)
-
 -- what an expression's walk gives is scoped
 pub expression_scoped : (scope : Scope) (node : Node) → IfOk (expression_walk scope node) (λ t. IsTerm scope node t (term_is_truth (known_in scope) t))
-expression_scoped scope (number at n) = if_ok (nat_lt n (2 ^ 64)) _ _ _ (λ h. (below_fact n (2 ^ 64) h, refl, refl)) (λ _. tt)
+expression_scoped scope (number at n) = if_ok (nat_lt n (2 ^ 64)) _ _ _ (λ h. (ltb-true n (2 ^ 64) h, refl, refl)) (λ _. tt)
 expression_scoped scope (word at w) = word_scoped scope at w (constant_of w) (constant_kind scope w)
 expression_scoped scope (list at (more (word head w) (more left (more right none)))) =
     pair_scoped scope at head (operator_of w) (IsTerm scope left) (IsTerm scope right) (expression_walk scope left) (expression_walk scope right) (expression_scoped scope left) (expression_scoped scope right)
@@ -209,12 +193,6 @@ pub if_found : (o : Option ℕ) (P : ℕ → Type 0) → ((i : ℕ) → o ≡ So
 if_found (Some i) P f = f i refl
 if_found None P f = tt
 
--- what each of a list passes, the one at a place passes
-passes : {X : Type 0} (test : X → Bool) (xs : List X) (i : ℕ) (d : X) → list_all test xs ≡ true → i < length xs → test (get_or xs i d) ≡ true
-passes test [] i d h k = absurd (omega arith)
-passes test (x ∷ xs) zero d h k = first_of (test x) (list_all test xs) h
-passes test (x ∷ xs) (suc i) d h k = passes test xs i d (rest_of (test x) (list_all test xs) h) (omega arith)
-
 -- a primitive's word begins with `Ack.` or `Flow.`
 abbrev is_ack_word : PrimitiveName → Bool
 is_ack_word known = not (is_field_use (word_of known)) && is_primitive_use (word_of known)
@@ -223,10 +201,9 @@ all_ack_words : list_all is_ack_word primitive_names ≡ true
 all_ack_words = refl
 
 ack_word : (known : PrimitiveName) → is_ack_word known ≡ true → IsAckWord (word_of known)
-ack_word known h = (
-  from_not (is_field_use (word_of known)) (first_of (not (is_field_use (word_of known))) (is_primitive_use (word_of known)) h),
-  rest_of (not (is_field_use (word_of known))) (is_primitive_use (word_of known)) h,
-)
+ack_word known h =
+    let both = and_parts (not (is_field_use (word_of known))) (is_primitive_use (word_of known)) h in
+    (not-true (is_field_use (word_of known)) both.0, both.1)
 
 pub primitive_word : (w : List ℕ) → IfSome (primitive_named w) (λ _. IsAckWord w)
 primitive_word w =
@@ -234,7 +211,7 @@ primitive_word w =
     let none : PrimitiveName = ([], []) in
     let there = position-Some (λ known. bytes_eq w (word_of known)) primitive_names i none e in
     let known = get_or primitive_names i none in
-    subst IsAckWord (sym (spelt w (word_of known) there.1)) (ack_word known (passes is_ack_word primitive_names i none all_ack_words there.0)))
+    subst IsAckWord (sym (spelt w (word_of known) there.1)) (ack_word known (AllPass-from_list_all is_ack_word primitive_names all_ack_words i none there.0)))
 
 -- the number of a primitive is one of them
 pub primitive_count_of : (w : List ℕ) → IfSome (primitive_named w) (λ n. n < primitive_count)

@@ -1,5 +1,7 @@
 -- Forms stand for what the walk over them gives.
-use Rattle.std.proofs.Common.{◌≡◌, ℕ, ◌≤◌, Bool, true, false, not, refl, List, [], ◌∷◌, ◌++◌, length, Some, Result, Ok, Err, IfOk, nat_le, slice_get, bytes_eq, codes, ap, ◌∙◌, sym, subst, append-nil, append_assoc, lit≤}
+use Rattle.std.proofs.Common.{◌≡◌, ℕ, ◌≤◌, true, false, not, refl, List, [], ◌∷◌, ◌++◌, length, Some, Result, Ok, Err, IfOk, nat_le, slice_get, bytes_eq, codes, ap, ◌∙◌, sym, subst, append-nil, append_assoc, lit≤}
+use Rattle.std.proofs.lemmas.Bool.{not-false}
+use Rattle.std.proofs.lemmas.Result.{IfOk-weaker}
 use Rattle.portus_core.specs.declared.program.Decl.{Decl}
 use Rattle.portus_core.specs.Programs.{Term, Action, Part}
 use Rattle.portus_core.specs.Trees.{Node, Nodes, none, more, number, word, list}
@@ -14,7 +16,7 @@ use Rattle.scope_types.specs.ExpressionRules.{IsTerm}
 use Rattle.scope_types.specs.CommandRules.{IsBody}
 use Rattle.scope_types.specs.DeclarationRules.{AreParts, AreDistinct}
 use Rattle.scope_types.specs.WellScoped.{IsBlock, IsWhen, AreBlocks, IsProgram, IsScoped}
-use Rattle.scope_types.proofs.Results.{if_ok, then_ok, ok_map}
+use Rattle.scope_types.proofs.Results.{if_ok, then_ok}
 use Rattle.scope_types.proofs.ScopedExpressions.{spelt, expression_scoped, IsProper}
 use Rattle.scope_types.proofs.ScopedCommands.{kind_scoped, kind_true, IsRestScoped, body_scoped}
 use Rattle.scope_types.proofs.ScopedDeclarations.{AddsParts, parts_scoped}
@@ -60,7 +62,7 @@ def_scoped node = tt
 condition_scoped : (names : Scope) (node : Node) → IfOk (condition_walk names node) (λ t. IsTerm names node t true)
 condition_scoped names node =
     then_ok (expression_walk names node) _ _ _ (expression_scoped names node) (λ t h.
-    ok_map (kind_walk names true _ t) _ _ (kind_scoped names true _ t) (λ e k. kind_true names node t e h k))
+    IfOk-weaker (kind_walk names true _ t) _ _ (λ e k. kind_true names node t e h k) (kind_scoped names true _ t))
 
 block_of : (names : Scope) (condition : Node) (commands : Nodes) (c : Term) (body : List Action × Scope) → IsTerm names condition c true → IsRestScoped names [] commands body → IsBlock names condition commands (walked_part c body)
 block_of names condition commands c body h r = record {
@@ -76,18 +78,14 @@ inner_scoped names condition commands p =
     then_ok (body_walk names [] commands) _ _ _ (body_scoped names [] commands p) (λ body r.
     block_of names condition commands c body h r))
 
-is_not_not : (b : Bool) → not b ≡ false → b ≡ true
-is_not_not true h = refl
-is_not_not false h = absurd (cc)
-
 form_scoped : (names : Scope) (count : ℕ) (node : Node) → IsProper (without_locals names) → IfOk (form_walk names count node) (λ block. IsWhen (without_locals names) node block.0)
 form_scoped names count (list at (more (word head w) none)) p =
     if_ok (not (bytes_eq w (codes "when"))) _ _ _ (λ _. tt) (λ _. if_ok (nat_le 64 count) _ _ _ (λ _. tt) (λ _. tt))
 form_scoped names count (list at (more (word head w) (more condition commands))) p =
     if_ok (not (bytes_eq w (codes "when"))) _ _ _ (λ _. tt) (λ h.
     if_ok (nat_le 64 count) _ _ _ (λ _. tt) (λ _.
-    ok_map (inner_walk (without_locals names) condition commands) _ _ (inner_scoped (without_locals names) condition commands p)
-    (λ block b. (spelt w (codes "when") (is_not_not _ h), b))))
+    IfOk-weaker (inner_walk (without_locals names) condition commands) _ _ (λ block b. (spelt w (codes "when") (not-false _ h), b))
+    (inner_scoped (without_locals names) condition commands p)))
 form_scoped names count node p = tt
 
 -- a block leaves the declared names
@@ -114,8 +112,8 @@ blocks_scoped names done (more node rest) p =
     then_ok (form_walk names (length done) node) _ _ _
     (ok_both (form_walk names (length done) node) _ _ (form_scoped names (length done) node p) (valid.form_valid names (length done) node)) (λ block f.
     let e = same_start names block.1 f.1.right.fields f.1.right.controls in
-    ok_map (blocks_walk block.1 (done ++ block.0 ∷ []) rest) _ _ (blocks_scoped block.1 (done ++ block.0 ∷ []) rest (subst IsProper e p))
-    (λ blocks r. more_blocks names done node rest block blocks f.0 e r))
+    IfOk-weaker (blocks_walk block.1 (done ++ block.0 ∷ []) rest) _ _ (λ blocks r. more_blocks names done node rest block blocks f.0 e r)
+    (blocks_scoped block.1 (done ++ block.0 ∷ []) rest (subst IsProper e p)))
 
 distinct_of : (decls : List Decl) → ((i : ℕ) (d : Decl) → slice_get decls i ≡ Some d → decl_from 0 decls d.name ≡ Some i) → AreDistinct decls
 distinct_of decls found i j d e h k same =

@@ -1,6 +1,8 @@
 -- Commands that their walk gives are valid where they stand.
 use Rattle.std.proofs.Common.{◌≡◌, ℕ, ◌==◌, Bool, true, false, not, ◌&&◌, ◌||◌, refl, List, [], ◌∷◌, ◌++◌, length, Option, Some, None, IfSome, IfOk, IsTrue, nat_lt, nat_le, bytes_eq, codes, arith, ap, ◌∙◌, sym, append-nil, append_assoc, eq-eqb}
 use Rattle.std.proofs.lemmas.List.{length-map, map-append}
+use Rattle.std.proofs.lemmas.Bool.{and_parts, and_from, or_left, or_right, not_from_false}
+use Rattle.std.proofs.lemmas.Result.{IfOk-weaker}
 use Rattle.std.proofs.lemmas.Bool.Decides.{nat_tests}
 use Rattle.ccp_base.specs.declared.place.Place.{Place}
 use Rattle.portus_core.specs.declared.program.Var.{Var}
@@ -17,7 +19,7 @@ use Rattle.scope_types.specs.Scope.{Scope, known_in}
 use Rattle.scope_types.specs.ExpressionWalk.{expression_walk}
 use Rattle.scope_types.specs.Scope as scope
 use Rattle.scope_types.specs.CommandWalk as walk
-use Rattle.scope_types.proofs.Results.{if_ok, then_ok, both_true, ok_map}
+use Rattle.scope_types.proofs.Results.{if_ok, then_ok}
 use Rattle.scope_types.proofs.ValidExpressions.{meaning_known, expression_valid}
 
 -- a target: `Micros`, a name that may be assigned, or a word without a meaning
@@ -41,9 +43,9 @@ variable_goal names at w = grind (arith, nat_tests)
 named_goal : (names : Scope) (at : Place) (w : List ℕ) (v : Option Var) → IfSome v (λ v. IsTrue (is_known (known_in names) v)) → IfOk (walk.named_target_walk at w v) (IsGoal names)
 named_goal names at w (Some (var.Prim n)) h = tt
 named_goal names at w (Some var.Micros) h = tt
-named_goal names at w (Some (var.Field i)) h = both_true _ _ h refl
-named_goal names at w (Some (var.Control i)) h = both_true _ _ h refl
-named_goal names at w (Some (var.Local i)) h = both_true _ _ h refl
+named_goal names at w (Some (var.Field i)) h = and_from _ _ h refl
+named_goal names at w (Some (var.Control i)) h = and_from _ _ h refl
+named_goal names at w (Some (var.Local i)) h = and_from _ _ h refl
 named_goal names at w (Some var.Cwnd) h = refl
 named_goal names at w (Some var.Rate) h = refl
 named_goal names at w None h = if_ok (is_field_use w || is_primitive_use w) _ _ _ (λ _. tt) (λ _. tt)
@@ -64,15 +66,15 @@ fits_from false truth h = refl
 
 pub kind_fits : (names : Scope) (wanted : Bool) (at : Place) (term : Term) → IsTrue (is_term (known_in names) term) → IfOk (walk.kind_walk names wanted at term) (λ t. IsTrue (is_term (known_in names) t && (not wanted || term_is_truth (known_in names) t)))
 kind_fits names wanted at term h =
-    if_ok (wanted && not (walk.is_bool names term)) _ _ _ (λ _. tt) (λ k. both_true _ _ h (fits_from wanted (walk.is_bool names term) k))
+    if_ok (wanted && not (walk.is_bool names term)) _ _ _ (λ _. tt) (λ k. and_from _ _ h (fits_from wanted (walk.is_bool names term) k))
 
 known_target : (names : Scope) (target : Target) → IsOther names target → IfOk (walk.known_variable_walk target) (λ v. IsTrue (is_target (known_in names) v))
 known_target names (Meant at v) h = h
 known_target names (Fresh at w) h = tt
 
 choice_step : (names : Scope) (when_so : Bool) (head : Place) (v : Var) (condition value : Term) → IsTrue (is_target (known_in names) v) → IsTrue (is_condition (known_in names) condition) → IsTrue (fits_target (known_in names) v value) → IsStep names (walk.choice_action when_so head v condition value, names)
-choice_step names true head v condition value t c f = (both_true _ _ (both_true _ _ t c) f, refl)
-choice_step names false head v condition value t c f = (both_true _ _ (both_true _ _ t c) f, refl)
+choice_step names true head v condition value t c f = (and_from _ _ (and_from _ _ t c) f, refl)
+choice_step names false head v condition value t c f = (and_from _ _ (and_from _ _ t c) f, refl)
 
 choice_valid : (names : Scope) (target : Target) (when_so : Bool) (value_at head : Place) (parts : Nodes) → IsOther names target → IfOk (walk.choice_walk names target when_so value_at head parts) (IsStep names)
 choice_valid names target when_so value_at head (more condition (more value none)) h =
@@ -89,12 +91,8 @@ weight_valid (number at n) = if_ok (nat_le n 10) _ _ _ (λ h. h) (λ _. tt)
 weight_valid (word at w) = tt
 weight_valid (list at parts) = tt
 
-not_from : (b : Bool) → b ≡ false → not b ≡ true
-not_from false h = refl
-not_from true h = sym h
-
 number_valid : (names : Scope) (target : Target) → IsOther names target → IfOk (walk.number_walk names target) (λ v. IsTrue (is_target (known_in names) v && not (is_truth (known_in names) v)))
-number_valid names (Meant at v) h = if_ok (walk.wants_bool names v) _ _ _ (λ _. tt) (λ k. both_true _ _ h (not_from _ k))
+number_valid names (Meant at v) h = if_ok (walk.wants_bool names v) _ _ _ (λ _. tt) (λ k. and_from _ _ h (not_from_false _ k))
 number_valid names (Fresh at w) h = tt
 
 ewma_valid : (names : Scope) (target : Target) (value_at head : Place) (parts : Nodes) → IsOther names target → IfOk (walk.ewma_walk names target value_at head parts) (IsStep names)
@@ -102,20 +100,8 @@ ewma_valid names target value_at head (more weight (more value none)) h =
     then_ok (walk.number_walk names target) _ _ _ (number_valid names target h) (λ v t.
     then_ok (walk.weight_walk weight) _ _ _ (weight_valid weight) (λ w k.
     then_ok (expression_walk names value) _ _ _ (expression_valid names value) (λ e q.
-    (both_true _ _ (both_true _ _ t k) q, refl))))
+    (and_from _ _ (and_from _ _ t k) q, refl))))
 ewma_valid names target value_at head parts h = tt
-
-and_left : (a b : Bool) → (a && b) ≡ true → a ≡ true
-and_left true b h = refl
-and_left false b h = h
-
-or_left : (a b : Bool) → a ≡ true → (a || b) ≡ true
-or_left true b h = refl
-or_left false b h = absurd (cc)
-
-or_right : (a b : Bool) → b ≡ true → (a || b) ≡ true
-or_right true b h = refl
-or_right false b h = h
 
 not_next : (i n : ℕ) → nat_lt i n ≡ true → ((i == n) && nat_lt i 8) ≡ false
 not_next i n h = grind (arith, nat_tests)
@@ -132,8 +118,8 @@ known_not_next known var.Micros h = refl
 
 set_known : (names : Scope) (v : Var) (term : Term) → IsTrue (is_target (known_in names) v) → IsTrue (fits_target (known_in names) v term) → IsStep names (set v term, names)
 set_known names v term t f = (
-  or_left _ _ (both_true _ _ t f),
-  ap (λ b. with_known_local (known_in names) b (term_is_truth (known_in names) term)) (sym (known_not_next (known_in names) v (and_left _ _ t))),
+  or_left _ _ (and_from _ _ t f),
+  ap (λ b. with_known_local (known_in names) b (term_is_truth (known_in names) term)) (sym (known_not_next (known_in names) v (and_parts _ _ t).0)),
 )
 
 next_test : (n m : ℕ) → m ≡ n → nat_le 8 n ≡ false → ((n == m) && nat_lt n 8) ≡ true
@@ -142,7 +128,7 @@ next_test n m e h = grind (arith, nat_tests)
 set_fresh : (names : Scope) (w : List ℕ) (term : Term) → nat_le 8 (length names.locals) ≡ false → IsTrue (is_term (known_in names) term) → IsStep names (set (var.Local (length names.locals)) term, scope.with_local_name names w (walk.is_bool names term))
 set_fresh names w term room t =
     let next : is_next_local (known_in names) (var.Local (length names.locals)) ≡ true = next_test (length names.locals) _ (length-map names.locals (λ (l : Local). l.truth)) room in (
-      or_right _ _ (both_true _ _ next t),
+      or_right _ _ (and_from _ _ next t),
       ap (λ ls. let known : KnownNames = record { fields = names.fields; controls = names.controls; locals = ls } in known) (map-append (λ (l : Local). l.truth) names.locals _)
           ∙ ap (λ b. with_known_local (known_in names) b (walk.is_bool names term)) (sym next),
     )
@@ -245,7 +231,7 @@ one_more : (names : Scope) (done : List Action) (step : walk.Step) (body : List 
 one_more names done step body s r = record {
   rest = step.0 ∷ r.rest;
   whole = r.whole ∙ append_assoc done (step.0 ∷ []) r.rest;
-  valid = both_true _ _ s.0 (ap (λ known. is_body known (length body.1.locals) r.rest) (sym s.1) ∙ r.valid);
+  valid = and_from _ _ s.0 (ap (λ known. is_body known (length body.1.locals) r.rest) (sym s.1) ∙ r.valid);
   fields = r.fields ∙ ap (λ (known : KnownNames). known.fields) s.1 ∙ after_fields (known_in names) step.0;
   controls = r.controls ∙ ap (λ (known : KnownNames). known.controls) s.1 ∙ after_controls (known_in names) step.0;
 }
@@ -255,4 +241,4 @@ pub body_valid : (names : Scope) (done : List Action) (nodes : Nodes) → IfOk (
 body_valid names done none = nothing_left names done
 body_valid names done (more node rest) =
     then_ok (walk.command_walk names node) _ _ _ (command_valid names node)
-    (λ step s. ok_map (walk.body_walk step.1 (done ++ step.0 ∷ []) rest) _ _ (body_valid step.1 (done ++ step.0 ∷ []) rest) (λ body r. one_more names done step body s r))
+    (λ step s. IfOk-weaker (walk.body_walk step.1 (done ++ step.0 ∷ []) rest) _ _ (λ body r. one_more names done step body s r) (body_valid step.1 (done ++ step.0 ∷ []) rest))

@@ -1,5 +1,7 @@
 -- Expressions that their walk gives have a meaning in each name.
 use Rattle.std.proofs.Common.{ℕ, ◌+◌, ◌<◌, ◌^◌, Bool, true, false, List, [], ◌∷◌, length, drop, Option, Some, None, IfSome, Result, Ok, Err, IfOk, IsTrue, nat_lt, if◌then◌else◌, bytes_eq, arith}
+use Rattle.std.proofs.lemmas.Bool.{and_from, lt-ltb}
+use Rattle.std.proofs.lemmas.Option.{IfSome_then}
 use Rattle.std.proofs.lemmas.List.{length-map}
 use Rattle.std.proofs.lemmas.Bool.Decides.{nat_tests}
 use Rattle.ccp_base.specs.declared.place.Place.{Place}
@@ -21,8 +23,8 @@ use Rattle.scope_types.specs.ValueWords.{constant_of}
 use Rattle.scope_types.specs.Names.{decl_from, local_from, meaning_of}
 use Rattle.scope_types.specs.Scope.{Scope, known_in}
 use Rattle.scope_types.specs.ExpressionWalk.{or_refused, name_walk, variable_walk, word_walk, pair_walk, expression_walk}
-use Rattle.scope_types.proofs.Results.{if_ok, both_true}
-use Rattle.scope_types.proofs.ScopedExpressions.{primitive_count_of, some_mono, variable_or_means}
+use Rattle.scope_types.proofs.Results.{if_ok}
+use Rattle.scope_types.proofs.ScopedExpressions.{primitive_count_of, variable_or_means}
 
 -- what holds of a choice's value holds in each branch
 pub if_some : {A : Type 0} (b : Bool) (r s : Option A) (P : A → Type 0) → IfSome r P → IfSome s P → IfSome (if b then r else s) P
@@ -34,28 +36,25 @@ decl_below i [] w = tt
 decl_below i (d ∷ ds) w =
     if_some (bytes_eq d.name w) (Some i) (decl_from (i + 1) ds w) _
     (let here : i < i + length (d ∷ ds) = omega arith in here)
-    (some_mono (decl_from (i + 1) ds w) _ _ (decl_below (i + 1) ds w) (λ n h. let there : n < i + length (d ∷ ds) = omega arith in there))
+    (IfSome_then (decl_from (i + 1) ds w) (decl_below (i + 1) ds w) (λ n h. let there : n < i + length (d ∷ ds) = omega arith in there))
 
 local_below : (i : ℕ) (ds : List Local) (w : List ℕ) → IfSome (local_from i ds w) (λ n. n < i + length ds)
 local_below i [] w = tt
 local_below i (d ∷ ds) w =
     if_some (bytes_eq d.name w) (Some i) (local_from (i + 1) ds w) _
     (let here : i < i + length (d ∷ ds) = omega arith in here)
-    (some_mono (local_from (i + 1) ds w) _ _ (local_below (i + 1) ds w) (λ n h. let there : n < i + length (d ∷ ds) = omega arith in there))
-
-below_test : (a b : ℕ) → a < b → IsTrue (nat_lt a b)
-below_test a b h = grind (arith, nat_tests)
+    (IfSome_then (local_from (i + 1) ds w) (local_below (i + 1) ds w) (λ n h. let there : n < i + length (d ∷ ds) = omega arith in there))
 
 primitive_below : (w : List ℕ) → IfSome (primitive_named w) (λ n. IsTrue (nat_lt n primitive_count))
-primitive_below w = some_mono (primitive_named w) _ _ (primitive_count_of w) (λ n h. below_test n primitive_count h)
+primitive_below w = IfSome_then (primitive_named w) (primitive_count_of w) (λ n h. lt-ltb n primitive_count h)
 
 local_known : (names : Scope) (w : List ℕ) → IfSome (local_from 0 names.locals w) (λ n. IsTrue (is_known (known_in names) (var.Local n)))
 local_known names w =
-    some_mono (local_from 0 names.locals w) _ _ (local_below 0 names.locals w)
-    (λ n h. below_test n (length (known_in names).locals) (omega (arith, length-map names.locals (λ (l : Local). l.truth))))
+    IfSome_then (local_from 0 names.locals w) (local_below 0 names.locals w)
+    (λ n h. lt-ltb n (length (known_in names).locals) (omega (arith, length-map names.locals (λ (l : Local). l.truth))))
 
 decl_known : (ds : List Decl) (w : List ℕ) → IfSome (decl_from 0 ds w) (λ n. IsTrue (nat_lt n (length ds)))
-decl_known ds w = some_mono (decl_from 0 ds w) _ _ (decl_below 0 ds w) (λ n h. below_test n (length ds) (omega arith))
+decl_known ds w = IfSome_then (decl_from 0 ds w) (decl_below 0 ds w) (λ n h. lt-ltb n (length ds) (omega arith))
 
 -- a word's meaning is a name that is known
 pub meaning_known : (names : Scope) (w : List ℕ) → IfSome (meaning_of names w) (λ v. IsTrue (is_known (known_in names) v))
@@ -94,7 +93,7 @@ pair_valid : (known : KnownNames) (at head : Place) (op : Option Op2) (l r : Res
 pair_valid known at head None l r p q = tt
 pair_valid known at head (Some op) (Err e) r p q = tt
 pair_valid known at head (Some op) (Ok l) (Err e) p q = tt
-pair_valid known at head (Some op) (Ok l) (Ok r) p q = both_true _ _ p q
+pair_valid known at head (Some op) (Ok l) (Ok r) p q = and_from _ _ p q
 
 -- what an expression's walk gives has a meaning in each name
 pub expression_valid : (names : Scope) (node : Node) → IfOk (expression_walk names node) (λ t. IsTrue (is_term (known_in names) t))

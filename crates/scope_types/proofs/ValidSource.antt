@@ -1,5 +1,7 @@
 -- A program that the walk over forms gives is valid.
 use Rattle.std.proofs.Common.{◌≡◌, ℕ, ◌+◌, ◌≤◌, Bool, true, false, not, ◌&&◌, refl, List, [], ◌∷◌, ◌++◌, length, is_some, Option, Some, None, IfSome, ◌||◌, Result, Ok, IfOk, IsTrue, nat_le, bytes_eq, codes, arith, ap, ◌∙◌, sym, subst, length-append, lit≤, if◌then◌else◌}
+use Rattle.std.proofs.lemmas.Bool.{and_parts, and_from, or_parts, or_from, not-true, not-false, not_from_false, le-leb}
+use Rattle.std.proofs.lemmas.Result.{IfOk-weaker}
 use Rattle.std.proofs.lemmas.Bool.Decides.{nat_tests}
 use Rattle.ccp_base.specs.declared.place.Place.{Place}
 use Rattle.portus_core.specs.declared.program.Decl.{Decl}
@@ -16,7 +18,7 @@ use Rattle.scope_types.specs.ExpressionWalk.{expression_walk}
 use Rattle.scope_types.specs.DeclarationWalk as walk
 use Rattle.scope_types.specs.CommandWalk.{body_walk}
 use Rattle.scope_types.specs.ProgramWalk.{nothing_declared, without_locals, walked_part, condition_walk, inner_walk, block_walk, form_walk, blocks_walk, def_walk, walked_form}
-use Rattle.scope_types.proofs.Results.{if_ok, then_ok, both_true, ok_map}
+use Rattle.scope_types.proofs.Results.{if_ok, then_ok}
 use Rattle.scope_types.proofs.ScopedExpressions.{some_case}
 use Rattle.scope_types.proofs.ValidExpressions.{expression_valid}
 use Rattle.scope_types.proofs.ValidCommands.{IsRest, kind_fits, body_valid}
@@ -28,61 +30,28 @@ pub record IsWithin (names : Scope) : Type 0 where
   pub right_fields : IsTrue (are_declared is_field_name names.fields)
   pub right_controls : IsTrue (are_declared is_control_name names.controls)
 
-and_left : (a b : Bool) → (a && b) ≡ true → a ≡ true
-and_left true b h = refl
-and_left false b h = h
-
-and_right : (a b : Bool) → (a && b) ≡ true → b ≡ true
-and_right true b h = h
-and_right false b h = absurd (cc)
-
-not_not : (b : Bool) → not b ≡ false → b ≡ true
-not_not true h = refl
-not_not false h = absurd (cc)
-
-not_true : (b : Bool) → b ≡ false → not b ≡ true
-not_true false h = refl
-not_true true h = absurd (cc)
-
-from_not : (b : Bool) → not b ≡ true → b ≡ false
-from_not false h = refl
-from_not true h = absurd (cc)
-
-neither : (a b : Bool) → a ≡ false → b ≡ false → (a || b) ≡ false
-neither false b h k = k
-neither true b h k = h
-
-or_left : (a b : Bool) → (a || b) ≡ false → a ≡ false
-or_left false b h = refl
-or_left true b h = h
-
-or_right : (a b : Bool) → (a || b) ≡ false → b ≡ false
-or_right false b h = h
-or_right true b h = absurd (cc)
-
 -- a name that no declaration has is new for the first of them and for the rest
 new_by : (b : Bool) (i : ℕ) (o : Option ℕ) → is_some (if b then Some i else o) ≡ false → (b ≡ false) × (is_some o ≡ false)
 new_by true i o h = absurd (cc)
 new_by false i o h = (refl, h)
 
 named_later : (name : List ℕ) (rest : List Decl) (decl : Decl) → is_named_in name rest ≡ false → bytes_eq name decl.name ≡ false → is_named_in name (rest ++ decl ∷ []) ≡ false
-named_later name [] decl h k = neither _ _ k refl
+named_later name [] decl h k = or_from _ _ k refl
 named_later name (first ∷ rest) decl h k =
-    neither (bytes_eq name first.name) (is_named_in name (rest ++ decl ∷ [])) (or_left (bytes_eq name first.name) (is_named_in name rest) h)
-    (named_later name rest decl (or_right (bytes_eq name first.name) (is_named_in name rest) h) k)
+    let neither = or_parts (bytes_eq name first.name) (is_named_in name rest) h in
+    or_from (bytes_eq name first.name) (is_named_in name (rest ++ decl ∷ [])) neither.0 (named_later name rest decl neither.1 k)
 
 -- one more declaration of a new name
 one_more : (is_allowed : List ℕ → Bool) (decls : List Decl) (decl : Decl) (i : ℕ) → IsTrue (are_declared is_allowed decls) → is_allowed decl.name ≡ true → is_start decl ≡ true → is_some (decl_from i decls decl.name) ≡ false → IsTrue (are_declared is_allowed (decls ++ decl ∷ []))
-one_more is_allowed [] decl i h allowed start new = both_true _ _ (both_true _ _ (both_true _ _ allowed start) refl) refl
+one_more is_allowed [] decl i h allowed start new = and_from _ _ (and_from _ _ (and_from _ _ allowed start) refl) refl
 one_more is_allowed (first ∷ rest) decl i h allowed start new =
     let n = new_by (bytes_eq first.name decl.name) i (decl_from (i + 1) rest decl.name) new in
     let own = is_allowed first.name && is_start first in
-    let alone = own && not (is_named_in first.name rest) in
-    let here = and_left alone (are_declared is_allowed rest) h in
-    both_true _ _
-    (both_true _ _ (and_left own (not (is_named_in first.name rest)) here)
-    (not_true _ (named_later first.name rest decl (from_not _ (and_right own (not (is_named_in first.name rest)) here)) n.0)))
-    (one_more is_allowed rest decl (i + 1) (and_right alone (are_declared is_allowed rest) h) allowed start n.1)
+    let parts = and_parts (own && not (is_named_in first.name rest)) (are_declared is_allowed rest) h in
+    let here = and_parts own (not (is_named_in first.name rest)) parts.0 in
+    and_from _ _
+    (and_from _ _ here.0 (not_from_false _ (named_later first.name rest decl (not-true _ here.1) n.0)))
+    (one_more is_allowed rest decl (i + 1) parts.1 allowed start n.1)
 
 -- a declared value is right
 abbrev is_right : Start → Bool
@@ -120,7 +89,7 @@ field_within names d start h =
     let within : IsWithin (walk.with_field names d.decl) = record {
       fields = subst (λ n. n ≤ 64) (sym (length-append names.fields (d.decl ∷ []))) (room _ k);
       controls = h.controls;
-      right_fields = one_more is_field_name names.fields d.decl 0 h.right_fields (not_not _ allowed) start new;
+      right_fields = one_more is_field_name names.fields d.decl 0 h.right_fields (not-false _ allowed) start new;
       right_controls = h.right_controls;
     } in within)))
 
@@ -133,7 +102,7 @@ control_within names d start h =
       fields = h.fields;
       controls = subst (λ n. n ≤ 64) (sym (length-append names.controls (d.decl ∷ []))) (room _ k);
       right_fields = h.right_fields;
-      right_controls = one_more is_control_name names.controls d.decl 0 h.right_controls (not_not _ allowed) start new;
+      right_controls = one_more is_control_name names.controls d.decl 0 h.right_controls (not-false _ allowed) start new;
     } in within)))
 
 fields_within : (names : Scope) (nodes : Nodes) → IsWithin names → IfOk (walk.fields_walk names nodes) IsWithin
@@ -193,7 +162,7 @@ pub record IsBlock (names : Scope) (block : Part × Scope) : Type 0 where
 
 part_valid : (names : Scope) (condition : Term) (body : List Action × Scope) → IsTrue (is_condition (block_names names) condition) → IsRest (without_locals names) [] body → IsBlock names (walked_part condition body, body.1)
 part_valid names condition body c r = record {
-  valid = both_true _ _ c (ap (is_body (block_names names) (length body.1.locals)) r.whole ∙ r.valid);
+  valid = and_from _ _ c (ap (is_body (block_names names) (length body.1.locals)) r.whole ∙ r.valid);
   fields = r.fields;
   controls = r.controls;
 }
@@ -217,13 +186,14 @@ pub form_valid : (names : Scope) (count : ℕ) (node : Node) → IfOk (form_walk
 form_valid names count (list at (more (word head w) parts)) =
     if_ok (not (bytes_eq w (codes "when"))) _ _ _ (λ _. tt) (λ _.
     if_ok (nat_le 64 count) _ _ _ (λ _. tt) (λ few.
-    ok_map (block_walk names at parts) _ _ (block_valid names at parts) (λ block right. record { right = right; few = few })))
+    IfOk-weaker (block_walk names at parts) _ _ (λ block right. record { right = right; few = few }) (block_valid names at parts)))
 form_valid names count node = tt
 
 are_parts-append : (known : KnownNames) (done : List Part) (part : Part) → IsTrue (are_parts known done) → IsTrue (is_part known part) → IsTrue (are_parts known (done ++ part ∷ []))
-are_parts-append known [] part d p = both_true _ _ p refl
+are_parts-append known [] part d p = and_from _ _ p refl
 are_parts-append known (first ∷ rest) part d p =
-    both_true _ _ (and_left _ _ d) (are_parts-append known rest part (and_right _ _ d) p)
+    let parts = and_parts (is_part known first) (are_parts known rest) d in
+    and_from _ _ parts.0 (are_parts-append known rest part parts.1 p)
 
 -- right blocks, which leave the declared names as they were
 pub record AreBlocks (names : Scope) (blocks : List Part × Scope) : Type 0 where
@@ -249,27 +219,24 @@ pub blocks_valid : (names : Scope) (done : List Part) (nodes : Nodes) → IsTrue
 blocks_valid names done none d n = record { valid = d; few = n; fields = refl; controls = refl }
 blocks_valid names done (more node rest) d n =
     then_ok (form_walk names (length done) node) _ _ _ (form_valid names (length done) node) (λ block f.
-    ok_map (blocks_walk block.1 (done ++ block.0 ∷ []) rest) _ _
+    IfOk-weaker (blocks_walk block.1 (done ++ block.0 ∷ []) rest) _ _
+    (λ blocks r. after_block names block blocks f.right r)
     (blocks_valid block.1 (done ++ block.0 ∷ []) rest
     (ap (λ known. are_parts known (done ++ block.0 ∷ [])) (sym (same_names names block.1 f.right.fields f.right.controls))
     ∙ are_parts-append (block_names names) done block.0 d f.right.valid)
-    (subst (λ k. k ≤ 64) (sym (length-append done (block.0 ∷ []))) (room _ f.few)))
-    (λ blocks r. after_block names block blocks f.right r))
-
-within_test : (n : ℕ) → n ≤ 64 → nat_le n 64 ≡ true
-within_test n h = grind (arith, nat_tests)
+    (subst (λ k. k ≤ 64) (sym (length-append done (block.0 ∷ []))) (room _ f.few))))
 
 form_of_valid : (names : Scope) (blocks : List Part × Scope) → IsWithin names → AreBlocks names blocks → IsTrue (is_valid (walked_form blocks))
 form_of_valid names blocks w b =
-    both_true _ _
-    (both_true _ _
-    (both_true _ _ (within_test _ (subst (λ (ds : List Decl). length ds ≤ 64) (sym b.fields) w.fields)) (within_test _ (subst (λ (ds : List Decl). length ds ≤ 64) (sym b.controls) w.controls)))
-    (within_test _ b.few))
+    and_from _ _
+    (and_from _ _
+    (and_from _ _ (le-leb _ 64 (subst (λ (ds : List Decl). length ds ≤ 64) (sym b.fields) w.fields)) (le-leb _ 64 (subst (λ (ds : List Decl). length ds ≤ 64) (sym b.controls) w.controls)))
+    (le-leb _ 64 b.few))
     (ap (λ known. are_parts known blocks.0) (sym (same_names names blocks.1 b.fields b.controls)) ∙ b.valid)
 
 form_of_declared : (names : Scope) (blocks : List Part × Scope) → IsWithin names → AreBlocks names blocks → IsTrue (is_declared (walked_form blocks))
 form_of_declared names blocks w b =
-    both_true _ _
+    and_from _ _
     (subst (λ (ds : List Decl). IsTrue (are_declared is_field_name ds)) (sym b.fields) w.right_fields)
     (subst (λ (ds : List Decl). IsTrue (are_declared is_control_name ds)) (sym b.controls) w.right_controls)
 

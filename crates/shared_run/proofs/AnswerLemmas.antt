@@ -2,6 +2,7 @@
 use Rattle.std.specs.Prelude.{◌≡◌, ◌<◌, ◌≤◌, ℕ, zero, suc, ◌+◌, ◌*◌, ◌==◌, Bool, true, false, ◌&&◌, nat_lt, if◌then◌else◌, Some, None, unwrap_or, List, [], ◌∷◌, ◌++◌, length, slice_get, refl}
 use Rattle.std.specs.List.{All}
 use Rattle.std.proofs.Common.{arith, ap, sym, ◌∙◌, length-append}
+use Rattle.std.proofs.lemmas.Option.{same_Some, none-some}
 use Rattle.ccp_base.specs.declared.ack.Ack.{Ack}
 use Rattle.campaign_core.proofs.BoundLemmas.{lost-most, flight-most}
 use Rattle.link_model.specs.Link.{Packet, GivenAck, packet_and_lost_below, Numbered, Next, arrives, all_lost, in_flight}
@@ -162,22 +163,16 @@ pub each-length : (n : ℕ) (acks : ℕ → List Ack) → length (each_flow n ac
 each-length zero acks = refl
 each-length (suc flow) acks = omega (arith, each-length flow acks, length-append (each_flow flow acks) (acks flow ∷ []))
 
-pub same-some : {A : Type 0} (left right : A) → Some left ≡ Some right → left ≡ right
-same-some left right e = cc
-
-pub no-some : {A : Type 0} (right : A) → None ≡ Some right → ⊥
-no-some right e = cc
-
 get-last : {A P : Type 0} (front : List A) (last : A) (i : ℕ) (one : A) → slice_get (front ++ last ∷ []) i ≡ Some one
     → (slice_get front i ≡ Some one → P) → (i ≡ length front → one ≡ last → P) → P
-get-last [] last zero one is before at = at refl (sym (same-some last one is))
-get-last [] last (suc i) one is before at = absurd (no-some one is)
+get-last [] last zero one is before at = at refl (sym (same_Some last one is))
+get-last [] last (suc i) one is before at = absurd (none-some one is)
 get-last (first ∷ front) last zero one is before at = before is
 get-last (first ∷ front) last (suc i) one is before at = get-last front last i one is before (λ e. at (ap suc e))
 
 -- the list at a place is that of the flow
 pub each-get : (n : ℕ) (acks : ℕ → List Ack) (i : ℕ) (list : List Ack) → slice_get (each_flow n acks) i ≡ Some list → list ≡ acks i
-each-get zero acks i list is = absurd (no-some list is)
+each-get zero acks i list is = absurd (none-some list is)
 each-get (suc flow) acks i list is =
     get-last (each_flow flow acks) (acks flow) i list is (λ before. each-get flow acks i list before)
     (λ at same. same ∙ ap acks (sym (at ∙ each-length flow acks)))

@@ -1,6 +1,7 @@
 -- The counts of what flows may have in a round: each has as many acknowledgements left as it is given.
 use Rattle.std.specs.Prelude.{◌≡◌, ◌≤◌, ℕ, zero, suc, ◌+◌, ◌-◌, Some, List, [], ◌∷◌, length, slice_get, refl}
 use Rattle.std.proofs.Common.{arith, ap}
+use Rattle.std.proofs.lemmas.Option.{same_Some, none-some}
 use Rattle.ccp_base.specs.declared.ack.Ack.{Ack}
 use Rattle.flow_core.specs.Readings.{over_codes}
 use Rattle.flow_core.specs.Cores.{CoreState}
@@ -8,7 +9,7 @@ use Rattle.shared_link.specs.declared.round.Ask.{Ask}
 use Rattle.shared_link.specs.declared.shared_case.SharedCase.{SharedCase}
 use Rattle.shared_link.specs.SharedRounds.{ask_at, sent_by, round_givens, shared_run_of, acks_of_givens, acks_after}
 use Rattle.shared_run.specs.SharedHistory.{asks_of}
-use Rattle.shared_run.proofs.AnswerLemmas.{round-few, each-length, each-get, no-some, same-some}
+use Rattle.shared_run.proofs.AnswerLemmas.{round-few, each-length, each-get}
 
 -- a flow has no more acknowledgements than its case
 abbrev pub KeepsCount : CoreState → Type 0
@@ -36,14 +37,14 @@ within-from (acks ∷ others) (core ∷ rest) each =
 -- what a flow asks for
 ask-left : (flows : List CoreState) (i : ℕ) (core : CoreState) → slice_get flows i ≡ Some core
     → (ask_at (asks_of over_codes flows) i).left ≡ core.case.acks - length core.acks
-ask-left [] i core is = absurd (no-some core is)
-ask-left (first ∷ rest) zero core is = ap (λ (c : CoreState). c.case.acks - length c.acks) (same-some first core is)
+ask-left [] i core is = absurd (none-some core is)
+ask-left (first ∷ rest) zero core is = ap (λ (c : CoreState). c.case.acks - length c.acks) (same_Some first core is)
 ask-left (first ∷ rest) (suc i) core is = ask-left rest i core is
 
 keeps-at : (flows : List CoreState) → KeepCounts flows → (i : ℕ) (core : CoreState) → slice_get flows i ≡ Some core → length core.acks ≤ core.case.acks
-keeps-at [] keep i core is = absurd (no-some core is)
+keeps-at [] keep i core is = absurd (none-some core is)
 keeps-at (first ∷ rest) keep zero core is =
-    let same = same-some first core is in
+    let same = same_Some first core is in
     let acks = ap (λ (c : CoreState). length c.acks) same in
     let case = ap (λ (c : CoreState). c.case.acks) same in
     let here = keep.0 in

@@ -3,8 +3,9 @@ use Rattle.std.specs.Prelude.{◌≡◌, ◌<◌, ◌≤◌, ℕ, zero, suc, ◌
 use Rattle.std.proofs.Common.{arith, ap, sym, ◌∙◌, subst, add-one, ◌⊎◌, inl, inr}
 use Rattle.std.proofs.lemmas.Bool.{leb-true, leb-false, ne_eqb}
 use Rattle.std.proofs.lemmas.Bool.Decides.{leb_tells}
-use Rattle.std.proofs.lemmas.List.{length-map}
-use Rattle.std.proofs.lemmas.Option.{slice_get-map}
+use Rattle.std.proofs.lemmas.List.{length-map, take_more, drop-drop}
+use Rattle.std.proofs.lemmas.Option.{slice_get-map, slice_get_within, get_or_from_slice_get, same_Some, none-some}
+use Rattle.circular_buffer.proofs.Places.{slice_get-drop}
 use Rattle.ccp_base.specs.declared.ack.Ack.{Ack}
 use Rattle.flow_core.specs.declared.case.Case.{Case}
 use Rattle.flow_core.specs.Readings.{over_codes}
@@ -16,7 +17,6 @@ use Rattle.campaign_core.specs.FlowRow.{opened}
 use Rattle.shared_run.specs.RoundLetters.{round_part}
 use Rattle.shared_run.specs.SharedHistory.{ask_of, asks_of, parts, have_all, rounds_from, round_limit}
 use Rattle.shared_run.specs.Courses.{run_after, flows_after, asks_in, acks_in_round, none_left, StandsAfter, EndsInTime}
-use Rattle.shared_run.proofs.AnswerLemmas.{no-some, same-some}
 use Rattle.shared_run.proofs.CountLemmas.{Within, within-after, lists-length}
 use Rattle.shared_run.proofs.RoomyLemmas.{flows-keep}
 
@@ -35,52 +35,35 @@ same-first x y xs ys e = cc
 pub same-rest : {A : Type 0} (x y : A) (xs ys : List A) → x ∷ xs ≡ y ∷ ys → xs ≡ ys
 same-rest x y xs ys e = cc
 
-pub none-of : {A : Type 0} (xs : List A) → length xs ≡ 0 → xs ≡ []
-none-of [] is = refl
-none-of (x ∷ rest) is = absurd (omega (arith, is))
-
--- one more item of a list
-pub taken_next : {A : Type 0} (xs : List A) (n : ℕ) (x : A) → slice_get xs n ≡ Some x → take (suc n) xs ≡ take n xs ++ x ∷ []
-taken_next [] n x is = absurd (no-some x is)
-taken_next (first ∷ rest) zero x is = λ i. same-some first x is i ∷ []
-taken_next (first ∷ rest) (suc n) x is = ap (λ xs. first ∷ xs) (taken_next rest n x is)
-
 -- the first item of what is left of a list, and the rest
 pub drop_get : {A : Type 0} (xs : List A) (n : ℕ) (x : A) (rest : List A) → x ∷ rest ≡ drop n xs → slice_get xs n ≡ Some x
-drop_get [] zero x rest is = absurd (no-cons x rest is)
-drop_get [] (suc n) x rest is = absurd (no-cons x rest is)
-drop_get {A = A} (first ∷ later) zero x rest is = ap (λ (a : A). Some a) (sym (same-first x first rest later is))
-drop_get (first ∷ later) (suc n) x rest is = drop_get later n x rest is
-
-pub drop_rest : {A : Type 0} (xs : List A) (n : ℕ) (x : A) (rest : List A) → x ∷ rest ≡ drop n xs → rest ≡ drop (suc n) xs
-drop_rest [] zero x rest is = absurd (no-cons x rest is)
-drop_rest [] (suc n) x rest is = absurd (no-cons x rest is)
-drop_rest (first ∷ later) zero x rest is = same-rest x first rest later is
-drop_rest (first ∷ later) (suc n) x rest is = drop_rest later n x rest is
+drop_get {A = A} xs n x rest is = sym (slice_get-drop n xs 0 n (omega arith)) ∙ ap (λ (l : List A). slice_get l 0) (sym is)
 
 pub taken_on : {A : Type 0} (all before after : List A) (n : ℕ) (one : A) → before ≡ take n all → after ≡ before ++ one ∷ [] → slice_get all n ≡ Some one
     → after ≡ take (n + 1) all
 taken_on {A = A} all before after n one begun pushed at =
-    pushed ∙ ap (λ (xs : List A). xs ++ one ∷ []) begun ∙ sym (taken_next all n one at) ∙ sym (ap (λ (k : ℕ). take k all) (add-one n))
+    let more = take_more all n one (slice_get_within all n one at) in
+    pushed ∙ ap (λ (xs : List A). xs ++ one ∷ []) begun
+    ∙ sym (more ∙ ap (λ (x : A). take n all ++ x ∷ []) (get_or_from_slice_get all n one one at))
 
 pub dropped_on : {A : Type 0} (all : List A) (n : ℕ) (one : A) (rest : List A) → one ∷ rest ≡ drop n all → rest ≡ drop (n + 1) all
-dropped_on all n one rest is = drop_rest all n one rest is ∙ sym (ap (λ (k : ℕ). drop k all) (add-one n))
+dropped_on all n one rest is = ap (drop 1) is ∙ drop-drop 1 n all
 
 parts-at : (lists : List (List Ack)) (flows : List CoreState) (i : ℕ) (acks : List Ack) (core : CoreState) → slice_get lists i ≡ Some acks → slice_get flows i ≡ Some core
     → slice_get (parts over_codes lists flows) i ≡ Some (round_part over_codes acks core)
-parts-at [] flows i acks core at there = absurd (no-some acks at)
-parts-at (list ∷ lists) [] i acks core at there = absurd (no-some core there)
-parts-at (list ∷ lists) (flow ∷ flows) zero acks core at there = λ j. Some (round_part over_codes (same-some list acks at j) (same-some flow core there j))
+parts-at [] flows i acks core at there = absurd (none-some acks at)
+parts-at (list ∷ lists) [] i acks core at there = absurd (none-some core there)
+parts-at (list ∷ lists) (flow ∷ flows) zero acks core at there = λ j. Some (round_part over_codes (same_Some list acks at j) (same_Some flow core there j))
 parts-at (list ∷ lists) (flow ∷ flows) (suc i) acks core at there = parts-at lists flows i acks core at there
 
 within-at : (lists : List (List Ack)) (flows : List CoreState) (i : ℕ) (acks : List Ack) (core : CoreState) → Within lists flows → slice_get lists i ≡ Some acks → slice_get flows i ≡ Some core
     → length core.acks + length acks ≤ core.case.acks
-within-at [] flows i acks core within at there = absurd (no-some acks at)
-within-at (list ∷ lists) [] i acks core within at there = absurd (no-some core there)
+within-at [] flows i acks core within at there = absurd (none-some acks at)
+within-at (list ∷ lists) [] i acks core within at there = absurd (none-some core there)
 within-at (list ∷ lists) (flow ∷ flows) zero acks core within at there =
-    let list_is = ap (λ (xs : List Ack). length xs) (same-some list acks at) in
-    let acks_are = ap (λ (c : CoreState). length c.acks) (same-some flow core there) in
-    let case_is = ap (λ (c : CoreState). c.case.acks) (same-some flow core there) in
+    let list_is = ap (λ (xs : List Ack). length xs) (same_Some list acks at) in
+    let acks_are = ap (λ (c : CoreState). length c.acks) (same_Some flow core there) in
+    let case_is = ap (λ (c : CoreState). c.case.acks) (same_Some flow core there) in
     let here = within.0 in
     omega (arith, list_is, acks_are, case_is, here)
 within-at (list ∷ lists) (flow ∷ flows) (suc i) acks core within at there = within-at lists flows i acks core within.1 at there
@@ -100,7 +83,7 @@ rest-parts : (lists : List (List Ack)) (flows : List CoreState) (i : ℕ) (acks 
 rest-parts [] flows i acks at none = refl
 rest-parts (list ∷ lists) [] i acks at none = refl
 rest-parts (list ∷ lists) (flow ∷ flows) zero acks at none =
-    rest-first list flow (ap (λ (xs : List Ack). length xs) (same-some list acks at) ∙ none)
+    rest-first list flow (ap (λ (xs : List Ack). length xs) (same_Some list acks at) ∙ none)
 rest-parts (list ∷ lists) (flow ∷ flows) (suc i) acks at none = rest-parts lists flows i acks at none
 
 -- ---- what is left

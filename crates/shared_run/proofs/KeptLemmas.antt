@@ -1,7 +1,7 @@
 -- What a run keeps of its flows, round by round.
 use Rattle.std.specs.Prelude.{◌≡◌, ◌+◌, ℕ, Option, Some, None, option_map, List, ◌∷◌, drop, map, slice_get, refl}
 use Rattle.std.proofs.Common.{ap, sym, ◌∙◌, subst}
-use Rattle.std.proofs.lemmas.Option.{slice_get-map}
+use Rattle.std.proofs.lemmas.Option.{slice_get-map, same_Some, none-some}
 use Rattle.ccp_base.specs.declared.ack.Ack.{Ack}
 use Rattle.flow_core.specs.declared.case.Case.{Case}
 use Rattle.flow_core.specs.Readings.{over_codes}
@@ -16,15 +16,14 @@ use Rattle.shared_run.specs.RoundFlows.{AreRoomy, kept_at, run_flow_in, HasHisto
 use Rattle.shared_run.specs.Courses.{flows_after, asks_in, acks_in_round}
 use Rattle.campaign_core.specs.GivenFlows.{IsAfterHistory, Goes}
 use Rattle.shared_run.proofs.BookLemmas.{after-kept, kept-after}
-use Rattle.shared_run.proofs.AnswerLemmas.{no-some, same-some}
 use Rattle.shared_run.proofs.CourseLemmas.{flow_fits, flow_next, flow_asks, opened_at}
 use Rattle.shared_run.proofs.RoomyLemmas.{flow-whole}
 use Rattle.shared_run.proofs.TurnLemmas.{part-acks}
 
 -- what is mapped to something is there
 mapped : {A B : Type 0} (f : A → B) (option : Option A) (b : B) → option_map f option ≡ Some b → (a : A) × (option ≡ Some a) × (f a ≡ b)
-mapped f None b is = absurd (no-some b is)
-mapped f (Some a) b is = (a, refl, same-some (f a) b is)
+mapped f None b is = absurd (none-some b is)
+mapped f (Some a) b is = (a, refl, same_Some (f a) b is)
 
 module _ {F : Type 0} (at : CoreState → F) (link : SharedCase) (cases : List Case) where
   -- a kept flow is after its history in the run

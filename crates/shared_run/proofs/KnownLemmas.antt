@@ -2,25 +2,15 @@
 use Rattle.std.specs.Prelude.{◌≡◌, ◌≢◌, ◌<◌, ◌≤◌, ℕ, zero, suc, ◌+◌, ◌%◌, ◌==◌, Bool, true, false, Some, List, [], ◌∷◌, ◌++◌, length, map, slice_get, slice_index_or, option_map, refl}
 use Rattle.std.specs.List.{All, filter, enumerate_from}
 use Rattle.std.proofs.Common.{arith, ap, sym, ◌∙◌, subst, set, cond, length-set, length-append, inl, inr}
+use Rattle.std.proofs.lemmas.Bool.{eq-eqb}
 use Rattle.std.proofs.lemmas.List.{map-append, length-map}
 use Rattle.std.proofs.lemmas.Bool.Decides.{eqb_tells, leb_tells}
-use Rattle.std.proofs.lemmas.Option.{slice_get_within, slice_get-map, slice_get-get_or}
+use Rattle.std.proofs.lemmas.Option.{slice_get_within, slice_get-map, slice_get-get_or, same_Some}
 use Rattle.std.proofs.Math.Nat.{mod-lt}
-use Rattle.circular_buffer.proofs.Places.{slice_get-set_same, slice_get-set_other}
+use Rattle.circular_buffer.proofs.Places.{slice_get-set_same, slice_get-set_other, slice_get-some, slice_get-last, slice_get-append_left}
 use Rattle.ccp_base.specs.declared.ack.Ack.{Ack}
 use Rattle.shared_run.specs.Orders.{FlowPart, OrderState, is_done_by, parts_of_worker, order_of, AreDealt, AreIdle}
 use Rattle.shared_run.specs.KnownFlows.{FlowRound, IsKnown, AreKnown, AreKnownFrom, StayKnown, AreRested, ArePartsKnown, flow_rounds, with_rounds, with_rounds_back, IsDone, AreDone, AreDoneOrOut}
-use Rattle.shared_run.proofs.AnswerLemmas.{same-some}
-
-pub map-set : {A B : Type 0} (f : A → B) (xs : List A) (i : ℕ) (x : A) → map f (set xs i x) ≡ set (map f xs) i (f x)
-map-set f [] i x = refl
-map-set f (first ∷ rest) zero x = refl
-map-set f (first ∷ rest) (suc i) x = ap (λ ys. f first ∷ ys) (map-set f rest i x)
-
-pub there : {A : Type 0} (xs : List A) (i : ℕ) → i < length xs → (x : A) × (slice_get xs i ≡ Some x)
-there [] i less = absurd (omega (arith, less))
-there (first ∷ rest) zero less = (first, refl)
-there (first ∷ rest) (suc i) less = there rest i (omega (arith, less))
 
 pub mapped-at : {A B : Type 0} (f : A → B) (xs : List A) (i : ℕ) (x : A) → slice_get xs i ≡ Some x → slice_get (map f xs) i ≡ Some (f x)
 mapped-at f xs i x at = slice_get-map f xs i ∙ ap (option_map f) at
@@ -33,17 +23,7 @@ place-known f items known number round old all is at =
     let long = slice_get_within (map f items) number (number, round) there_ in
     let less : number < length items = omega (arith, long, length-map items f) in
     let item : slice_get items number ≡ Some (slice_index_or items number old) = slice_get-get_or items number old less in
-    ap f is ∙ same-some (f (slice_index_or items number old)) (number, round) (sym (mapped-at f items number (slice_index_or items number old) item) ∙ there_)
-
--- one more at the end of a list
-got-front : {A : Type 0} (xs : List A) (x : A) (k : ℕ) → k < length xs → slice_get (xs ++ x ∷ []) k ≡ slice_get xs k
-got-front [] x k less = absurd (omega (arith, less))
-got-front (first ∷ rest) x zero less = refl
-got-front (first ∷ rest) x (suc k) less = got-front rest x k (omega (arith, less))
-
-got-last : {A : Type 0} (xs : List A) (x : A) → slice_get (xs ++ x ∷ []) (length xs) ≡ Some x
-got-last [] x = refl
-got-last (first ∷ rest) x = got-last rest x
+    ap f is ∙ same_Some (f (slice_index_or items number old)) (number, round) (sym (mapped-at f items number (slice_index_or items number old) item) ∙ there_)
 
 pub known-pushed : (known : List FlowRound) (flow : FlowRound) (longer : List FlowRound) → AreKnown known 0 → flow ≡ (length known, 0) → longer ≡ known ++ flow ∷ []
     → AreKnown longer 0
@@ -53,19 +33,13 @@ known-pushed known flow longer are is pushed =
     let long = length-append known (flow ∷ []) in
     elim (eqb_tells number (length known)) as (λ _. IsKnown (known ++ flow ∷ []) number 0) [
       | inl same ↦
-          ap (slice_get (known ++ flow ∷ [])) same.1 ∙ got-last known flow ∙ ap (λ (f : FlowRound). Some f) is
+          ap (slice_get (known ++ flow ∷ [])) same.1 ∙ slice_get-last known flow (length known) refl ∙ ap (λ (f : FlowRound). Some f) is
           ∙ ap (λ (n : ℕ). Some (n, 0)) (sym same.1)
       | inr apart ↦
           (let other = apart.1 in
           let within : number < length known = omega (arith, less, long, other) in
-          got-front known flow number within ∙ are number within)
+          slice_get-append_left known (flow ∷ []) number within ∙ are number within)
     ])
-
-same-number : (n : ℕ) → (n == n) ≡ true
-same-number n = elim (eqb_tells n n) as (λ _. (n == n) ≡ true) [
-  | inl same ↦ same.0
-  | inr apart ↦ absurd (apart.1 refl)
-]
 
 -- ---- one flow
 
@@ -240,7 +214,7 @@ module _ (round : ℕ) where
               let long = length-set busy at one in
               let within = slice_get_within (set busy at one) at false there_ in
               let some : Some one ≡ Some false = sym (slice_get-set_same busy at one (omega (arith, within, long))) ∙ there_ in
-              let is : one ≡ false = same-some one false some in
+              let is : one ≡ false = same_Some one false some in
               subst (λ (w : ℕ). IsDone workers round lists new w) (sym same.1) (here is))
           | inr apart ↦
               stay-done worker old new stay
@@ -352,7 +326,7 @@ module _ (round : ℕ) where
         elim (eqb_tells k number) as (λ _. IsKnown new k (round + 1)) [
           | inl same ↦
               (let is = same.1 in
-              let own : acks ≡ given = same-some acks given (sym at ∙ ap (slice_get lists) (sym is) ∙ there_) in
+              let own : acks ≡ given = same_Some acks given (sym at ∙ ap (slice_get lists) (sym is) ∙ there_) in
               let empty : length acks ≡ 0 = ap (λ (xs : List Ack). length xs) own ∙ none in
               subst (λ (n : ℕ). IsKnown new n (round + 1)) (sym is)
               (subst (λ (known : List FlowRound). IsKnown known number (round + 1)) (sym (deals.rested empty))
@@ -367,7 +341,7 @@ module _ (round : ℕ) where
     pub all-known : (known : List FlowRound) → 0 < workers → length known ≡ length lists → AreRested round lists known → AreDone workers round lists known
         → AreKnown known (round + 1)
     all-known known some long rested done number less =
-        let one = there lists number (omega (arith, less, long)) in
+        let one = slice_get-some lists number (omega (arith, less, long)) in
         known-where one.0 one.1 where
           known-where : (acks : List Ack) → slice_get lists number ≡ Some acks → IsKnown known number (round + 1)
           known-where [] at = rested number [] at refl
@@ -375,7 +349,7 @@ module _ (round : ℕ) where
               let worker = number % workers in
               let same : 0 + number ≡ number = omega arith in
               let own : is_done_by workers worker (0 + number, ack ∷ rest) ≡ true =
-              ap (λ (n : ℕ). n % workers == worker) same ∙ same-number worker in
+              ap (λ (n : ℕ). n % workers == worker) same ∙ eq-eqb worker worker refl in
               subst (λ (n : ℕ). IsKnown known n (round + 1)) same
               (part-known (is_done_by workers worker) 0 lists number (ack ∷ rest) known at own (done worker (mod-lt number some)))
 

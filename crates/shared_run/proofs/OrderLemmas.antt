@@ -7,11 +7,10 @@ use Rattle.std.proofs.lemmas.Bool.Decides.{eqb_tells}
 use Rattle.std.proofs.Math.Seq.{take-length, drop-length}
 use Rattle.std.proofs.lemmas.List.{length-map, map-append}
 use Rattle.std.proofs.lemmas.List.Elements.{All-append, filter-append}
-use Rattle.std.proofs.lemmas.Option.{slice_get_within}
+use Rattle.std.proofs.lemmas.Option.{slice_get_within, same_Some}
 use Rattle.std.proofs.Math.Nat.{mod-lt}
 use Rattle.circular_buffer.proofs.Places.{slice_get-set_same, slice_get-set_other}
 use Rattle.ccp_base.specs.declared.ack.Ack.{Ack}
-use Rattle.shared_run.proofs.AnswerLemmas.{same-some}
 use Rattle.shared_run.specs.Orders.{FlowPart, OrderState, with_flow_part, is_done_by, parts_of_worker, order_of, IsDealtBefore, DealsOne}
 
 enumerate-last : {X : Type 0} (n : ℕ) (xs : List X) (x : X) → enumerate_from n (xs ++ x ∷ []) ≡ enumerate_from n xs ++ (n + length xs, x) ∷ []
@@ -75,7 +74,7 @@ pub worker-own : (workers round number : ℕ) (orders : List OrderState) → 0 <
 worker-own workers round number orders some before worker order is at =
     let less : number % workers < workers = mod-lt number some in
     let within : worker < workers = omega (arith, is, less) in
-    let same : order_of workers worker round before.0 ≡ order = same-some (order_of workers worker round before.0) order (sym (before.2 worker within) ∙ at) in
+    let same : order_of workers worker round before.0 ≡ order = same_Some (order_of workers worker round before.0) order (sym (before.2 worker within) ∙ at) in
     ap (λ (o : OrderState). number % o.workers) (sym same) ∙ sym is ∙ ap (λ (o : OrderState). o.worker) same
 
 pub worker-round : (workers round number : ℕ) (orders : List OrderState) → 0 < workers → IsDealtBefore workers round number orders
@@ -83,7 +82,7 @@ pub worker-round : (workers round number : ℕ) (orders : List OrderState) → 0
 worker-round workers round number orders some before worker order is at =
     let less : number % workers < workers = mod-lt number some in
     let within : worker < workers = omega (arith, is, less) in
-    ap (λ (o : OrderState). o.round) (same-some (order_of workers worker round before.0) order (sym (before.2 worker within) ∙ at))
+    ap (λ (o : OrderState). o.round) (same_Some (order_of workers worker round before.0) order (sym (before.2 worker within) ∙ at))
 
 pub deals-part : (workers round number : ℕ) (acks : List Ack) (orders : List OrderState) (order new : OrderState) (at : ℕ)
     → 0 < length acks → at ≡ number % workers → slice_get orders at ≡ Some order → new ≡ with_flow_part (number, acks) order
@@ -94,7 +93,7 @@ deals-part workers round number (ack ∷ rest) orders order new at some is there
       | inl own ↦
           (let here : at ≡ worker = is ∙ own.1 in
           let was : order_of workers worker round lists ≡ order =
-          same-some (order_of workers worker round lists) order (sym (dealt worker less) ∙ ap (slice_get orders) (sym here) ∙ there) in
+          same_Some (order_of workers worker round lists) order (sym (dealt worker less) ∙ ap (slice_get orders) (sym here) ∙ there) in
           let mine : is_done_by workers worker (length lists, ack ∷ rest) ≡ true = ap (λ (n : ℕ). n % workers == worker) same ∙ own.0 in
           ap (slice_get (set orders at new)) (sym here)
           ∙ slice_get-set_same orders at new (slice_get_within orders at order there)
@@ -113,10 +112,6 @@ deals-part workers round number (ack ∷ rest) orders order new at some is there
 -- the first of the orders have no part yet
 abbrev pub AreOpen : ℕ → ℕ → ℕ → List OrderState → Type 0
 AreOpen workers round count orders = (worker : ℕ) → worker < count → slice_get orders worker ≡ Some (order_of workers worker round [])
-
-pub on_ok : {A E P Q : Type 0} (result : Result A E) → (P → Q) → OnOk result P → OnOk result Q
-on_ok (Ok value) follows holds = follows holds
-on_ok (Err fault) follows holds = tt
 
 -- ---- parts that are done
 

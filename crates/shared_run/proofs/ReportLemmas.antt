@@ -1,6 +1,7 @@
 -- At a run's end the answered tickets of each flow have all reports that it made.
 use Rattle.std.specs.Prelude.{◌≡◌, ℕ, zero, suc, ◌+◌, Bool, true, false, if◌then◌else◌, Option, Some, None, List, [], ◌∷◌, ◌++◌, length, map, slice_get, refl}
 use Rattle.std.proofs.Common.{ap, sym, ◌∙◌, subst, append-nil, length-append}
+use Rattle.std.proofs.lemmas.Option.{same_Some, none-some}
 use Rattle.ccp_base.specs.declared.ack.Ack.{Ack}
 use Rattle.ccp_base.specs.declared.exchange.Report.{Report}
 use Rattle.flow_core.specs.declared.case.Case.{Case}
@@ -20,7 +21,6 @@ use Rattle.campaign_core.specs.FlowRow.{CaseReading, world_of_core, opened, with
 use Rattle.shared_run.specs.RoundLetters.{answers_next, settling_letter, with_next, settled_in, with_settled_ack, round_part, closed_flow}
 use Rattle.shared_run.specs.SharedHistory.{Progress, asks_of, parts, after_round, have_all, rounds_from, round_limit}
 use Rattle.shared_run.specs.SharedReports.{CountsReports, RowsCountReports}
-use Rattle.shared_run.proofs.AnswerLemmas.{no-some, same-some}
 use Rattle.shared_run.proofs.TurnLemmas.{HasAll, no-ack, answered-out, next-made, all-by, closed-still}
 
 module _ {X : Type 0} (read : CaseReading X) where
@@ -124,9 +124,9 @@ module _ {X : Type 0} (read : CaseReading X) where
 
   closed-at : (flows : List CoreState) (number : ℕ) (core : CoreState) → AllKeep flows → slice_get (map (closed_flow read) flows) number ≡ Some core
       → CountsReports read core
-  closed-at [] number core keep at = absurd (no-some core at)
+  closed-at [] number core keep at = absurd (none-some core at)
   closed-at (first ∷ rest) zero core keep at =
-      subst (λ (one : CoreState). CountsReports read one) (same-some (closed_flow read first) core at) (closed-counts first keep.0)
+      subst (λ (one : CoreState). CountsReports read one) (same_Some (closed_flow read first) core at) (closed-counts first keep.0)
   closed-at (first ∷ rest) (suc number) core keep at = closed-at rest number core keep.1 at
 
   pub rows-count-reports : RowsCountReports read

@@ -1,6 +1,7 @@
 -- What a row sums over a flow's acknowledgements are numbers of 64 bits.
 use Rattle.std.specs.Prelude.{◌≡◌, ◌<◌, ◌≤◌, ℕ, zero, suc, ◌*◌, true, Some, List, [], ◌∷◌, ◌++◌, length, map, slice_get, refl}
 use Rattle.std.proofs.Common.{arith, ap, sym, subst, length-append}
+use Rattle.std.proofs.lemmas.Option.{same_Some, none-some}
 use Rattle.ccp_base.specs.declared.ack.Ack.{Ack}
 use Rattle.flow_core.specs.declared.case.Case.{Case}
 use Rattle.flow_core.specs.Readings.{over_codes}
@@ -16,7 +17,7 @@ use Rattle.shared_run.specs.SharedHistory.{Progress, asks_of, parts, after_round
 use Rattle.shared_run.specs.Courses.{run_after, flows_after}
 use Rattle.campaign_core.specs.GivenFlows.{HasAllAcks}
 use Rattle.shared_run.proofs.TurnLemmas.{part-case, part-acks, part-all, settled-acks, settled-case, settled-all}
-use Rattle.shared_run.proofs.AnswerLemmas.{AreSmall, AreAllSmall, after-all-small, no-some, same-some}
+use Rattle.shared_run.proofs.AnswerLemmas.{AreSmall, AreAllSmall, after-all-small}
 use Rattle.shared_run.proofs.CountLemmas.{KeepCounts, Within, within-after}
 
 abbrev pub SmallFlows : List CoreState → Type 0
@@ -88,9 +89,9 @@ roomy-of core small keep =
     (omega (arith, lost, keep, most), omega (arith, acked, keep, most))
 
 roomy-at : (flows : List CoreState) → SmallFlows flows → KeepCounts flows → (number : ℕ) (core : CoreState) → slice_get flows number ≡ Some core → AreRoomy core.acks
-roomy-at [] small keep number core at = absurd (no-some core at)
+roomy-at [] small keep number core at = absurd (none-some core at)
 roomy-at (first ∷ rest) small keep zero core at =
-    subst (λ (one : CoreState). AreRoomy one.acks) (same-some first core at) (roomy-of first small.0 keep.0)
+    subst (λ (one : CoreState). AreRoomy one.acks) (same_Some first core at) (roomy-of first small.0 keep.0)
 roomy-at (first ∷ rest) small keep (suc number) core at = roomy-at rest small.1 keep.1 number core at
 
 module _ (link : SharedCase) (cases : List Case) where
@@ -147,8 +148,8 @@ closed-whole (core ∷ rest) whole =
     )
 
 whole-at : (flows : List CoreState) → HaveAllAcks flows → (number : ℕ) (core : CoreState) → slice_get flows number ≡ Some core → HasAllAcks core
-whole-at [] whole number core at = absurd (no-some core at)
-whole-at (first ∷ rest) whole zero core at = subst (λ (one : CoreState). HasAllAcks one) (same-some first core at) whole.0
+whole-at [] whole number core at = absurd (none-some core at)
+whole-at (first ∷ rest) whole zero core at = subst (λ (one : CoreState). HasAllAcks one) (same_Some first core at) whole.0
 whole-at (first ∷ rest) whole (suc number) core at = whole-at rest whole.1 number core at
 
 module _ (link : SharedCase) (cases : List Case) where

@@ -24,10 +24,6 @@ use Rattle.shared_run.specs.SharedHistory.{ask_of}
 use Rattle.shared_run.specs.RoundFlows.{AreRoomy, HasHistory, MayHear, Took, MakesNext}
 use Rattle.shared_run.proofs.TurnLemmas.{next-C, next-T, next-none, answer-legal, fewer, settled-turn, settled-none, settled-acks, settled-case}
 
-pub if_ok-weaker : {A E : Type 0} (P Q : A → Type 0) (result : Result A E) → ((a : A) → P a → Q a) → IfOk result P → IfOk result Q
-if_ok-weaker P Q (Ok a) follows holds = follows a holds
-if_ok-weaker P Q (Err e) follows holds = tt
-
 -- ---- sums
 
 timeouts-most : (acks : List Ack) → timeouts_in acks ≤ length acks

@@ -2,3 +2,4 @@
 pub mod RegionLemmas
 pub mod FreeListLemmas
 pub mod PoolLemmas
+pub mod AsIsLemmas

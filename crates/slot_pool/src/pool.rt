@@ -1,5 +1,5 @@
 //! The pool of slots: a slot is taken, written, read and given back, and free ones are counted.
-ghost use Rattle.std.specs.Prelude.{◌≡◌, ℕ, ◌+◌, ◌-◌, ◌*◌, ◌^◌, ◌<◌, ◌≤◌, ◌↔◌, [], length, None, Some, IsErr, IfOk, OnOk, OnErr};
+ghost use Rattle.std.specs.Prelude.{◌≡◌, ℕ, ◌+◌, ◌-◌, ◌*◌, ◌^◌, ◌<◌, ◌≤◌, ◌↔◌, [], length, None, Some, option_map, IsErr, IfOk, OnOk, OnErr};
 ghost use Rattle.std.specs.FinMap as map;
 ghost use Rattle.slot_pool.specs.Pool.{words_at, IsOut, free_of, unused, ChangesSlot, TakesZeros, WritesWord, words_with_run};
 
@@ -71,6 +71,24 @@ impl Pool {
         self.free -= 1;
         self.region.clear(number);
         Ok(Slot::with_number(number))
+    }
+
+    /// As `take`, but the slot has whatever words are in it: they aren't cleared.
+    pub fn take_as_is(&mut self) -> Result<Slot, Full>
+        ensures full { IsErr result ↔ (free_of self.old ≡ 0) }
+        ensures was_free { IfOk result (λ slot. words_at self.old slot ≡ None) }
+        ensures taken { IfOk result (λ slot. ChangesSlot self.old self.new slot (words_at self.new slot)) }
+        ensures len { IfOk result (λ slot. option_map (λ words. length words) (words_at self.new slot) ≡ Some self.old.words) }
+        ensures counted { OnOk result (free_of self.new + 1 ≡ free_of self.old) }
+        ensures unchanged { OnErr result (self.new ≡ self.old) }
+    {
+        if self.free == 0usize {
+            return Err(Full);
+        }
+        let first = self.first_free;
+        self.first_free = self.region.first_word(first) as usize;
+        self.free -= 1;
+        Ok(Slot::with_number(first))
     }
 
     /// Gives a slot back. It must be out in this pool.

@@ -2,8 +2,8 @@ use Rattle.std.proofs.Common.{length}
 use Rattle.campaign_gate.proofs.BookLemmas.{AreMade}
 use Rattle.campaign_gate.proofs.calls.books_of.Given as goal
 
-abbrev pub invariant-loop-core : goal.invariant-loop-core
-invariant-loop-core l = AreMade l.fn.cores l.cores l.books
+abbrev pub invariant-loop-flow : goal.invariant-loop-flow
+invariant-loop-flow l = AreMade l.fn.flows l.flows l.books
 
-abbrev pub decreases-loop-core : goal.decreases-loop-core
-decreases-loop-core l = length l.cores
+abbrev pub decreases-loop-flow : goal.decreases-loop-flow
+decreases-loop-flow l = length l.flows

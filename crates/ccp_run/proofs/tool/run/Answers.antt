@@ -1,4 +1,5 @@
-use Rattle.std.proofs.Common.{◌≡◌, ◌∙◌, true, Some, List, ℕ, ap, is_some, refl, rules, sym, subst, map, string_bytes}
+use Rattle.std.proofs.Common.{◌≡◌, ◌∙◌, true, Some, List, ℕ, ap, is_some, refl, rules, sym, subst, map, string_bytes, true≢false}
+use Rattle.std.proofs.lemmas.Option.{same_Some}
 use Rattle.ccp_words.specs.declared.words.Asked.{Asked}
 use Rattle.ccp_words.specs.Words.{are_accepted, asked_in}
 use Rattle.ccp_run.specs.Complete.{AnswersOrRefuses}
@@ -6,12 +7,8 @@ use Rattle.ccp_run.specs.Modes.{task_of}
 use Rattle.ccp_run.specs.Run.{IsRun}
 use Rattle.ccp_run.specs.Streams.{StreamChange, stream_change}
 use Rattle.ccp_run.proofs.CompleteRuns.{complete}
-use Rattle.ccp_run.proofs.ModeLaws.{no_both}
 use Rattle.ccp_run.proofs.RunLemmas.{never_words_refused, wants_at_once}
 use Rattle.ccp_run.proofs.tool.run.Goals as goal
-
-one_some : (left right : Asked) → Some left ≡ Some right → left ≡ right
-one_some left right e = cc
 
 -- the words are accepted, and the run is one of the mode that they ask for
 pub returns-in-Ok : goal.returns-in-Ok
@@ -25,14 +22,14 @@ returns-in-Ok g c =
     let accepted : are_accepted given ≡ true = sym (ap (λ xs. are_accepted (map string_bytes xs)) words) ∙ c.in-Ok.ensures.accepted in
     let found : asked_in given ≡ Some c.in-Ok.asked = sym (ap (λ xs. asked_in (map string_bytes xs)) words) ∙ c.in-Ok.ensures.asked in
     record {
-      words = λ _. ((λ refused. absurd (never_words_refused (task_of c.in-Ok.asked) source sink errors (g.K.Sink.is_finished c.run_asked.new.sink) c.run_asked.result run refused)), (λ not. no_both (sym accepted ∙ not)));
-      unasked = λ not. no_both (sym accepted ∙ not);
+      words = λ _. ((λ refused. absurd (never_words_refused (task_of c.in-Ok.asked) source sink errors (g.K.Sink.is_finished c.run_asked.new.sink) c.run_asked.result run refused)), (λ not. absurd (true≢false (sym accepted ∙ not))));
+      unasked = λ not. absurd (true≢false (sym accepted ∙ not));
       asks = λ _ _. ap is_some found;
       asked = λ asked _ is.
           subst (λ (a : Asked). IsRun (task_of a) source sink errors (g.K.Sink.is_finished c.run_asked.new.sink) c.run_asked.result)
-          (one_some c.in-Ok.asked asked (sym found ∙ is)) run;
+          (same_Some c.in-Ok.asked asked (sym found ∙ is)) run;
       complete = λ asked _ is.
-          subst (λ (a : Asked). AnswersOrRefuses (task_of a) source sink c.run_asked.result) (one_some c.in-Ok.asked asked (sym found ∙ is))
+          subst (λ (a : Asked). AnswersOrRefuses (task_of a) source sink c.run_asked.result) (same_Some c.in-Ok.asked asked (sym found ∙ is))
           (complete (task_of c.in-Ok.asked) source sink errors (g.K.Sink.is_finished c.run_asked.new.sink) c.run_asked.result run);
     }
 

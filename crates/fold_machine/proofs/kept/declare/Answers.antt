@@ -12,11 +12,11 @@ whole c =
     let code = c.args.code.now in
     let second = c.declare_from.new.store in
     c.declare_from-2.ensures
-    ∙ ap (λ (starts : List Start). record second { registers = declared_words starts (first_field_word + c.len.result) second.registers }) c.as_slice-2.ensures
-    ∙ ap (λ n. record second { registers = declared_words code.controls (first_field_word + n) second.registers }) c.len.ensures
+    ∙ ap (λ (starts : List Start). record second { registers = declared_words starts (first_field_word + length c.reports-2.result.now) second.registers }) c.controls.ensures
+    ∙ ap (λ n. record second { registers = declared_words code.controls (first_field_word + n) second.registers }) (ap length c.reports-2.ensures)
     ∙ ap (λ (s : StoreState). record s { registers = declared_words code.controls (first_field_word + length code.reports) s.registers })
     (c.declare_from.ensures
-    ∙ ap (λ (starts : List Start). record c.set_register.new.self { registers = declared_words starts first_field_word c.set_register.new.self.registers }) c.as_slice.ensures
+    ∙ ap (λ (starts : List Start). record c.set_register.new.self { registers = declared_words starts first_field_word c.set_register.new.self.registers }) c.reports.ensures
     ∙ ap (λ (s : StoreState). record s { registers = declared_words code.reports first_field_word s.registers }) c.set_register.ensures)
 
 pub returns-clause-declared : goal.returns-clause-declared

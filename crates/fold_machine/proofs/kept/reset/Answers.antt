@@ -13,11 +13,11 @@ whole c =
     let first = c.args.store.now in
     let second = c.reset_from.new.store in
     c.reset_from-2.ensures
-    ∙ ap (λ (starts : List Start). record second { registers = reset_words starts (first_field_word + c.len.result) second.registers }) c.as_slice-2.ensures
-    ∙ ap (λ n. record second { registers = reset_words code.controls (first_field_word + n) second.registers }) c.len.ensures
+    ∙ ap (λ (starts : List Start). record second { registers = reset_words starts (first_field_word + length c.reports-2.result.now) second.registers }) c.controls.ensures
+    ∙ ap (λ n. record second { registers = reset_words code.controls (first_field_word + n) second.registers }) (ap length c.reports-2.ensures)
     ∙ ap (λ (s : StoreState). record s { registers = reset_words code.controls (first_field_word + length code.reports) s.registers })
     (c.reset_from.ensures
-    ∙ ap (λ (starts : List Start). record first { registers = reset_words starts first_field_word first.registers }) c.as_slice.ensures)
+    ∙ ap (λ (starts : List Start). record first { registers = reset_words starts first_field_word first.registers }) c.reports.ensures)
 
 pub returns-clause-reset : goal.returns-clause-reset
 returns-clause-reset c =

@@ -1,11 +1,11 @@
 use Rattle.std.proofs.Common.{rules, arith, ◌≡◌, ◌+◌, ◌-◌, ◌<◌, [], ◌∷◌, ◌++◌, length, sym, ap, ◌∙◌, subst}
 use Rattle.std.proofs.lemmas.List.{length-append}
+use Rattle.std.proofs.lemmas.List.Elements.{All-push}
 use Rattle.std.specs.List.{All}
 use Rattle.agent_core.specs.Kinds.{built_in_count}
 use Rattle.scene_members.specs.Plans.{IsPlan}
 use Rattle.scenario_json.specs.Soak.{drawn_plan, drawn_plans}
 use Rattle.scenario_json.proofs.DrawLemmas.{plans_done, plans_more}
-use Rattle.scene_members.proofs.ListLemmas.{all_pushed}
 use Rattle.scenario_json.proofs.draws.plans.Goals as goal
 
 pub loop-left-preserved : goal.loop-left-preserved
@@ -20,7 +20,7 @@ loop-left-preserved c =
       ap (λ plans. drawn_plans (l.left - 1) plans x) pushed
           ∙ ap (λ next. drawn_plans (l.left - 1) (l.plans ++ next.0 ∷ []) next.1) drawn
           ∙ sym (plans_more l.left l.plans l.draws.x some) ∙ l.invariant.0,
-      subst (λ plans. All (IsPlan built_in_count) plans) (sym pushed) (all_pushed (IsPlan built_in_count) l.plans plan l.invariant.1 c.in_ok-next.ensures.within),
+      subst (λ plans. All (IsPlan built_in_count) plans) (sym pushed) (All-push (IsPlan built_in_count) l.plans plan l.invariant.1 c.in_ok-next.ensures.within),
       omega (arith, longer, some, l.invariant.2),
     )
 

@@ -1,9 +1,9 @@
 use Rattle.std.proofs.Common.{◌≡◌, [], ◌∷◌, ◌++◌, List, length, map, arith, rules, sym, ap, ◌∙◌}
 use Rattle.std.specs.Vec.Iter.{into_iter_items, into_iter_len}
+use Rattle.std.proofs.lemmas.List.{nil_from_length}
 use Rattle.flow_core.specs.Cores.{CoreState}
 use Rattle.campaign_core.specs.declared.tallied_flow.TalliedFlow.{TalliedFlow}
 use Rattle.shared_run.proofs.BookLemmas.{done-none, done-one, still-next, done-all}
-use Rattle.shared_run.proofs.CourseLemmas.{none-of}
 use Rattle.shared_run.proofs.books.givens_of.Goals as goal
 
 pub loop-flow-init : goal.loop-flow-init
@@ -42,7 +42,7 @@ pub returns : goal.returns
 returns c =
     let l = c.loop-flow in
     let none : into_iter_items l.flow-iterator ≡ [] =
-    none-of (into_iter_items l.flow-iterator) (sym l.invariant.1 ∙ c.in-None.ensures.steps.0) in
+    nil_from_length (into_iter_items l.flow-iterator) (sym l.invariant.1 ∙ c.in-None.ensures.steps.0) in
     done-all (map (λ (shared : TalliedFlow CoreState). shared.flow) c.args.flows.items)
     (map (λ (shared : TalliedFlow CoreState). shared.flow) (into_iter_items l.flow-iterator)) l.givens l.invariant.0
     (ap (map (λ (shared : TalliedFlow CoreState). shared.flow)) none)

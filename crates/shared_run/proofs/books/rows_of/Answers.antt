@@ -1,7 +1,7 @@
 use Rattle.std.proofs.Common.{◌≡◌, [], ◌∷◌, ◌++◌, map, rules, ap}
+use Rattle.std.proofs.lemmas.List.{nil_from_length}
 use Rattle.campaign_core.specs.declared.tallied_flow.TalliedFlow.{TalliedFlow}
 use Rattle.shared_run.proofs.BookLemmas.{rows-first, rows-next, rows-last}
-use Rattle.shared_run.proofs.CourseLemmas.{none-of}
 use Rattle.shared_run.proofs.books.rows_of.Goals as goal
 
 pub loop-flow-init : goal.loop-flow-init
@@ -24,7 +24,7 @@ loop-flow-preserved g c =
 pub returns : goal.returns
 returns g c =
     let l = c.loop-flow in
-    let none : l.rest.now ≡ [] = none-of l.rest.now c.in_default.ensures.cases in
+    let none : l.rest.now ≡ [] = nil_from_length l.rest.now c.in_default.ensures.cases in
     rows-last g.F.GivenFlow.at (map (λ (shared : TalliedFlow g.row.F.Denot). (shared.flow, shared.tally)) c.args.flows.now)
     (map (λ (shared : TalliedFlow g.row.F.Denot). (shared.flow, shared.tally)) l.rest.now) l.rows
     (ap (map (λ (shared : TalliedFlow g.row.F.Denot). (shared.flow, shared.tally))) none) l.invariant

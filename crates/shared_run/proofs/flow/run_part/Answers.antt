@@ -1,9 +1,9 @@
 use Rattle.std.proofs.Common.{◌≡◌, ◌∷◌, [], arith, refl}
+use Rattle.std.proofs.lemmas.List.{nil_from_length}
 use Rattle.flow_core.specs.Readings.{over_codes}
 use Rattle.flow_core.specs.Cores.{CoreState, with_ack}
 use Rattle.shared_run.specs.RoundLetters.{with_settled_ack}
 use Rattle.campaign_core.specs.GivenFlows.{IsAfterHistory}
-use Rattle.shared_run.proofs.CourseLemmas.{none-of}
 use Rattle.shared_run.proofs.RoundFlowLemmas.{hears-first, hears-rest, part-on, part-done}
 use Rattle.shared_run.proofs.flow.run_part.Goals as goal
 
@@ -43,5 +43,5 @@ pub returns-clause-part : goal.returns-clause-part
 returns-clause-part g c =
     let first = c.args.flow.now in
     let new = c.loop-ack.flow in
-    let none : c.loop-ack.left.now ≡ [] = none-of c.loop-ack.left.now c.in_default.ensures.cases in
+    let none : c.loop-ack.left.now ≡ [] = nil_from_length c.loop-ack.left.now c.in_default.ensures.cases in
     part-done g.F.GivenFlow.at c.args.acks.now c.loop-ack.left.now first.flow first.tally new.flow new.tally none c.loop-ack.invariant.1

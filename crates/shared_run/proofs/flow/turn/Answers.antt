@@ -1,6 +1,7 @@
 use Rattle.std.proofs.Common.{◌≡◌, Bool, true, false, rules, sym, ◌∙◌}
+use Rattle.std.proofs.lemmas.Result.{IfOk-weaker}
 use Rattle.shared_run.specs.RoundFlows.{Took, MakesNext}
-use Rattle.shared_run.proofs.RoundFlowLemmas.{may-C, next-answer, next-taking, if_ok-weaker}
+use Rattle.shared_run.proofs.RoundFlowLemmas.{may-C, next-answer, next-taking}
 use Rattle.shared_run.proofs.flow.turn.Goals as goal
 
 pub settle-requires : goal.settle-requires
@@ -22,7 +23,7 @@ returns g c =
     let old = c.args.flow.now in
     let new = c.take.new.flow in
     let no : c.answers_next.result ≡ false = search rules in
-    if_ok-weaker (λ (took : Bool). Took at took old.flow old.tally new.flow new.tally)
-    (λ (made : Bool). MakesNext at c.args.at_end made old.flow old.tally new.flow new.tally) c.take.result
+    IfOk-weaker c.take.result (λ (took : Bool). Took at took old.flow old.tally new.flow new.tally)
+    (λ (made : Bool). MakesNext at c.args.at_end made old.flow old.tally new.flow new.tally)
     (λ took taken. next-taking at c.args.at_end old.flow old.tally new.flow new.tally took (λ core after. sym (c.answers_next.ensures core after) ∙ no) taken)
     c.take.ensures

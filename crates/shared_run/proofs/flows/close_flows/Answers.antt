@@ -1,9 +1,9 @@
 use Rattle.std.proofs.Common.{◌≡◌, ◌<◌, Some, slice_get, sym, List, [], ◌∷◌, ◌++◌, length, map, arith, rules, ap, ◌∙◌}
 use Rattle.std.proofs.lemmas.List.{map-append}
 use Rattle.std.specs.Vec.Iter.{into_iter_items}
+use Rattle.std.proofs.lemmas.Option.{same_Some}
 use Rattle.campaign_core.specs.declared.tallied_flow.TalliedFlow.{TalliedFlow}
 use Rattle.shared_run.specs.KnownFlows.{FlowRound}
-use Rattle.shared_run.proofs.AnswerLemmas.{same-some}
 use Rattle.shared_run.proofs.CourseLemmas.{taken_on}
 use Rattle.shared_run.proofs.KeptLemmas.{closed_in}
 use Rattle.shared_run.proofs.flows.close_flows.Goals as goal
@@ -21,7 +21,7 @@ loop-flow-preserved g c =
     let flows = c.requires.flows in
     let less : l.number < length known = omega (arith, shorter, l.invariant.1, all_known, flows) in
     let same : (place.number, place.round) ≡ (l.number, c.args.round) =
-    same-some (place.number, place.round) (l.number, c.args.round) (sym c.at.ensures ∙ c.requires.known l.number less) in
+    same_Some (place.number, place.round) (l.number, c.args.round) (sym c.at.ensures ∙ c.requires.known l.number less) in
     let closed : slice_get (closed_in g.F.GivenFlow.at g.C.Course.link g.C.Course.cases c.args.round) l.number ≡ Some (flow.flow, flow.tally) =
     ap (λ (f : FlowRound). slice_get (closed_in g.F.GivenFlow.at g.C.Course.link g.C.Course.cases f.1) f.0) (sym same) ∙ c.in_ok-close_flow.ensures in
     let pushed : c.push.new.self.items ≡ l.closed.items ++ flow ∷ [] = search rules in

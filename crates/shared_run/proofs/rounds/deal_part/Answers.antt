@@ -1,9 +1,9 @@
 use Rattle.std.proofs.Common.{◌≡◌, ◌<◌, ◌%◌, Some, length, slice_get, slice_index_or, rules, ap, sym, ◌∙◌}
-use Rattle.std.proofs.lemmas.Option.{slice_get-get_or, slice_get_within}
+use Rattle.std.proofs.lemmas.Option.{slice_get-get_or, slice_get_within, same_Some}
+use Rattle.std.proofs.lemmas.Result.{on_ok_weaker}
 use Rattle.shared_run.specs.Orders.{with_flow_part}
 use Rattle.shared_run.specs.KnownFlows.{FlowRound}
-use Rattle.shared_run.proofs.AnswerLemmas.{same-some}
-use Rattle.shared_run.proofs.OrderLemmas.{deals-none, worker-there, worker-own, worker-round, deals-part, on_ok}
+use Rattle.shared_run.proofs.OrderLemmas.{deals-none, worker-there, worker-own, worker-round, deals-part}
 use Rattle.shared_run.proofs.rounds.deal_part.Goals as goal
 
 pub returns-then-is_empty-clause-orders : goal.returns-then-is_empty-clause-orders
@@ -19,14 +19,14 @@ pub rest_since-requires-clause-number : goal.rest_since-requires-clause-number
 rest_since-requires-clause-number g c =
     let known = c.at-known.result.now in
     let same : (known.number, known.round) ≡ (c.args.acks.number, c.args.acks.round) =
-    same-some (known.number, known.round) (c.args.acks.number, c.args.acks.round) (sym c.at-known.ensures ∙ c.requires.known) in
+    same_Some (known.number, known.round) (c.args.acks.number, c.args.acks.round) (sym c.at-known.ensures ∙ c.requires.known) in
     ap (λ (flow : FlowRound). flow.0) same
 
 pub rest_since-requires-clause-round : goal.rest_since-requires-clause-round
 rest_since-requires-clause-round g c =
     let known = c.at-known.result.now in
     let same : (known.number, known.round) ≡ (c.args.acks.number, c.args.acks.round) =
-    same-some (known.number, known.round) (c.args.acks.number, c.args.acks.round) (sym c.at-known.ensures ∙ c.requires.known) in
+    same_Some (known.number, known.round) (c.args.acks.number, c.args.acks.round) (sym c.at-known.ensures ∙ c.requires.known) in
     ap (λ (flow : FlowRound). flow.1) same
 
 pub bounds-orders-worker : goal.bounds-orders-worker
@@ -66,7 +66,7 @@ returns-clause-orders g c =
     let at : slice_get orders worker ≡ Some order = slice_get-get_or orders worker c.index-orders-worker.result less in
     let some : 0 < length c.args.acks.acks = search rules in
     let rested = c.rest_since.ensures in
-    on_ok c.push.result
+    on_ok_weaker c.push.result
     (λ made.
     deals-part c.args.workers c.args.acks.round number c.args.acks.acks orders order c.push.new.self worker some c.worker_of-worker.ensures at
     (made ∙ (λ i. with_flow_part (rested.number i, rested.acks i) order)))

@@ -1,9 +1,8 @@
 use Rattle.std.proofs.Common.{◌≡◌, ◌-◌, ◌<◌, ◌≤◌, Some, length, length-set, slice_get, slice_index_or, arith, sym, ◌∙◌}
-use Rattle.std.proofs.lemmas.Option.{slice_get-get_or}
+use Rattle.std.proofs.lemmas.Option.{slice_get-get_or, same_Some}
 use Rattle.circular_buffer.proofs.Places.{slice_get-set_other}
 use Rattle.shared_run.specs.Courses.{acks_in_round}
 use Rattle.shared_run.specs.Orders.{order_of}
-use Rattle.shared_run.proofs.AnswerLemmas.{same-some}
 use Rattle.shared_run.proofs.KnownLemmas.{here-learns, done-next}
 use Rattle.shared_run.proofs.worker_handle.do_all_here.Goals as goal
 
@@ -21,7 +20,7 @@ loop-left-preserved g c =
     let within : at < length l.orders = omega (arith, some, long, most) in
     let order = slice_index_or l.orders at c.index-orders-left.result in
     let there : slice_get l.orders at ≡ Some order = slice_get-get_or l.orders at c.index-orders-left.result within in
-    let is : order ≡ order_of workers at round lists = same-some order (order_of workers at round lists) (sym there ∙ l.invariant.2 at less) in
+    let is : order ≡ order_of workers at round lists = same_Some order (order_of workers at round lists) (sym there ∙ l.invariant.2 at less) in
     let count = l.invariant.5 in
     let places : length lists ≤ length l.desk.known = omega (arith, count, c.requires.within) in
     let learns = here-learns round workers lists at order l.desk.known c.do_here.new.desk.known is places c.in_ok-do_here.ensures.known in (

@@ -1,8 +1,8 @@
 use Rattle.std.proofs.Common.{rules, ◌≡◌, ◌<◌, ℕ, Bool, length, map, arith, sym, subst, ◌∙◌}
+use Rattle.std.proofs.lemmas.Result.{on_ok_weaker}
 use Rattle.shared_run.specs.Courses.{acks_in_round}
 use Rattle.shared_run.specs.Orders.{IsDealtAt}
 use Rattle.shared_run.specs.KnownFlows.{IsDone, AreDone, AreDoneOrOut}
-use Rattle.shared_run.proofs.OrderLemmas.{on_ok}
 use Rattle.shared_run.proofs.KnownLemmas.{stay-done, all-out}
 use Rattle.shared_run.proofs.worker_handle.do_by_threads.Goals as goal
 
@@ -47,11 +47,11 @@ take_back_all-requires-clause-out g c =
 
 pub returns-clause-count : goal.returns-clause-count
 returns-clause-count g c =
-    on_ok c.take_back_all.result (λ count. count ∙ c.in_ok-do_first.ensures.count ∙ c.in_ok-hand_out_all.ensures.count) c.take_back_all.ensures.count
+    on_ok_weaker c.take_back_all.result (λ count. count ∙ c.in_ok-do_first.ensures.count ∙ c.in_ok-hand_out_all.ensures.count) c.take_back_all.ensures.count
 
 pub returns-clause-stay : goal.returns-clause-stay
 returns-clause-stay g c =
-    on_ok c.take_back_all.result
+    on_ok_weaker c.take_back_all.result
     (λ stay number known. stay number (c.in_ok-do_first.ensures.stay number (c.in_ok-hand_out_all.ensures.stay number known))) c.take_back_all.ensures.stay
 
 pub returns-clause-done : goal.returns-clause-done
@@ -59,5 +59,5 @@ returns-clause-done g c =
     let lists = acks_in_round g.C.Course.link g.C.Course.cases c.args.round in
     let new = c.take_back_all.new.desk.known in
     let end : length c.do_first.new.orders ≡ length c.args.orders.now = search rules in
-    on_ok c.take_back_all.result
+    on_ok_weaker c.take_back_all.result
     (λ done. subst (λ (n : ℕ). AreDone n c.args.round lists new) end done) c.take_back_all.ensures.done

@@ -1,9 +1,8 @@
 use Rattle.std.proofs.Common.{◌≡◌, ◌<◌, Some, length, slice_get, slice_index_or, arith, sym, ◌∙◌}
-use Rattle.std.proofs.lemmas.Option.{slice_get-get_or}
+use Rattle.std.proofs.lemmas.Option.{slice_get-get_or, same_Some}
+use Rattle.std.proofs.lemmas.Result.{on_ok_weaker}
 use Rattle.shared_run.specs.Courses.{acks_in_round}
 use Rattle.shared_run.specs.Orders.{order_of}
-use Rattle.shared_run.proofs.AnswerLemmas.{same-some}
-use Rattle.shared_run.proofs.OrderLemmas.{on_ok}
 use Rattle.shared_run.proofs.KnownLemmas.{here-learns}
 use Rattle.shared_run.proofs.worker_handle.do_first.Goals as goal
 
@@ -16,8 +15,8 @@ returns-then-first-orders-clause-count g c =
     let less : first < length orders = omega (arith, c.if-first-orders.true) in
     let order = slice_index_or orders first c.index-orders-first.result in
     let there : slice_get orders first ≡ Some order = slice_get-get_or orders first c.index-orders-first.result less in
-    let is = same-some order (order_of (length orders) first round lists) (sym there ∙ c.requires.dealt less) in
-    on_ok c.do_here.result (λ known. (here-learns round (length orders) lists first order c.args.desk.now.known c.do_here.new.desk.known is c.requires.within known).long) c.do_here.ensures.known
+    let is = same_Some order (order_of (length orders) first round lists) (sym there ∙ c.requires.dealt less) in
+    on_ok_weaker c.do_here.result (λ known. (here-learns round (length orders) lists first order c.args.desk.now.known c.do_here.new.desk.known is c.requires.within known).long) c.do_here.ensures.known
 
 pub returns-then-first-orders-clause-stay : goal.returns-then-first-orders-clause-stay
 returns-then-first-orders-clause-stay g c =
@@ -28,8 +27,8 @@ returns-then-first-orders-clause-stay g c =
     let less : first < length orders = omega (arith, c.if-first-orders.true) in
     let order = slice_index_or orders first c.index-orders-first.result in
     let there : slice_get orders first ≡ Some order = slice_get-get_or orders first c.index-orders-first.result less in
-    let is = same-some order (order_of (length orders) first round lists) (sym there ∙ c.requires.dealt less) in
-    on_ok c.do_here.result (λ known. (here-learns round (length orders) lists first order c.args.desk.now.known c.do_here.new.desk.known is c.requires.within known).stay) c.do_here.ensures.known
+    let is = same_Some order (order_of (length orders) first round lists) (sym there ∙ c.requires.dealt less) in
+    on_ok_weaker c.do_here.result (λ known. (here-learns round (length orders) lists first order c.args.desk.now.known c.do_here.new.desk.known is c.requires.within known).stay) c.do_here.ensures.known
 
 pub returns-then-first-orders-clause-done : goal.returns-then-first-orders-clause-done
 returns-then-first-orders-clause-done g c =
@@ -40,5 +39,5 @@ returns-then-first-orders-clause-done g c =
     let less : first < length orders = omega (arith, c.if-first-orders.true) in
     let order = slice_index_or orders first c.index-orders-first.result in
     let there : slice_get orders first ≡ Some order = slice_get-get_or orders first c.index-orders-first.result less in
-    let is = same-some order (order_of (length orders) first round lists) (sym there ∙ c.requires.dealt less) in
-    on_ok c.do_here.result (λ known within. (here-learns round (length orders) lists first order c.args.desk.now.known c.do_here.new.desk.known is c.requires.within known).done) c.do_here.ensures.known
+    let is = same_Some order (order_of (length orders) first round lists) (sym there ∙ c.requires.dealt less) in
+    on_ok_weaker c.do_here.result (λ known within. (here-learns round (length orders) lists first order c.args.desk.now.known c.do_here.new.desk.known is c.requires.within known).done) c.do_here.ensures.known

@@ -1,10 +1,10 @@
 use Rattle.std.proofs.Common.{◌≡◌, ◌<◌, ◌≤◌, Bool, Some, length, length-set, map, slice_get, slice_index_or, arith, sym, ◌∙◌}
-use Rattle.std.proofs.lemmas.Option.{slice_get-get_or}
+use Rattle.std.proofs.lemmas.Option.{slice_get-get_or, same_Some}
+use Rattle.std.proofs.lemmas.List.{map-set}
 use Rattle.circular_buffer.proofs.Places.{slice_get-set_other}
 use Rattle.shared_run.specs.Courses.{acks_in_round}
 use Rattle.shared_run.specs.Orders.{order_of}
-use Rattle.shared_run.proofs.AnswerLemmas.{same-some}
-use Rattle.shared_run.proofs.KnownLemmas.{map-set, handed-out, out-next}
+use Rattle.shared_run.proofs.KnownLemmas.{handed-out, out-next}
 use Rattle.shared_run.proofs.worker_handle.hand_out_all.Goals as goal
 
 pub hand_out-requires : goal.hand_out-requires
@@ -17,7 +17,7 @@ hand_out-requires g c =
     let less : l.worker < workers = omega (arith, c.loop-worker-test.true) in
     let order = slice_index_or l.orders l.worker c.index-orders-worker.result in
     let there : slice_get l.orders l.worker ≡ Some order = slice_get-get_or l.orders l.worker c.index-orders-worker.result (omega (arith, less, long)) in
-    let is : order ≡ order_of workers l.worker round lists = same-some order (order_of workers l.worker round lists) (sym there ∙ l.invariant.2 l.worker (omega arith) less) in
+    let is : order ≡ order_of workers l.worker round lists = same_Some order (order_of workers l.worker round lists) (sym there ∙ l.invariant.2 l.worker (omega arith) less) in
     is ∙ (λ i. order_of (sym is i).workers (sym is i).worker (sym is i).round (acks_in_round g.C.Course.link g.C.Course.cases (sym is i).round))
 
 pub loop-worker-preserved : goal.loop-worker-preserved
@@ -32,7 +32,7 @@ loop-worker-preserved g c =
     let less : at < workers = omega (arith, c.loop-worker-test.true) in
     let order = slice_index_or l.orders at c.index-orders-worker.result in
     let there : slice_get l.orders at ≡ Some order = slice_get-get_or l.orders at c.index-orders-worker.result (omega (arith, less, long)) in
-    let is : order ≡ order_of workers at round lists = same-some order (order_of workers at round lists) (sym there ∙ l.invariant.2 at (omega arith) less) in
+    let is : order ≡ order_of workers at round lists = same_Some order (order_of workers at round lists) (sym there ∙ l.invariant.2 at (omega arith) less) in
     let count = l.invariant.6 in
     let places : length lists ≤ length l.desk.known = omega (arith, count, c.requires.within) in
     let handle = c.hand_out.new.handle in

@@ -1,8 +1,9 @@
 use Rattle.std.proofs.Common.{◌≡◌, ◌+◌, ◌<◌, ◌≤◌, Bool, Some, List, length, length-set, map, slice_get, slice_index_or, arith, ap, subst, sym, ◌∙◌}
 use Rattle.std.proofs.lemmas.Option.{slice_get-get_or}
+use Rattle.std.proofs.lemmas.List.{map-set}
 use Rattle.shared_run.specs.Courses.{acks_in_round}
 use Rattle.shared_run.specs.KnownFlows.{AreDoneOrOut}
-use Rattle.shared_run.proofs.KnownLemmas.{map-set, mapped-at, taken-learns, out-rest, done-below}
+use Rattle.shared_run.proofs.KnownLemmas.{mapped-at, taken-learns, out-rest, done-below}
 use Rattle.shared_run.proofs.worker_handle.take_back_all.Goals as goal
 
 pub loop-worker-preserved : goal.loop-worker-preserved

@@ -1,17 +1,19 @@
-use Rattle.std.proofs.Common.{◌∙◌, ◌+◌}
+use Rattle.std.proofs.Common.{ap, ◌∙◌, ◌+◌}
+use Rattle.ccp_base.specs.declared.exchange.Report.{Report}
 use Rattle.ccp_base.specs.RunningEpochs.{report_at, reported_epoch}
 use Rattle.flow_core.specs.Bares.{reports_in}
+use Rattle.flow_core.specs.ReportWords.{with_fields}
 use Rattle.flow_core.proofs.BareLemmas.{noted-report}
 use Rattle.flow_core.proofs.bare.BareParts.record_report.Goals as goal
 
 pub returns : goal.returns
 returns c =
     let s = c.args.self.now in
-    let put = c.put_report.ensures in
+    let put = c.put_last_report.ensures in
     let report =
-    c.report-report.ensures.report
-    ∙ (λ i. report_at s.epoch s.case.flow (c.from-end.ensures i + 1) c.args.ack.now.now (c.cwnd-cwnd.ensures i) (c.rate-rate.ensures i) (c.reported-fields.ensures i)) in
-    noted-report s c.args.ack.now c.put_report.new.machine c.put_report.new.outbox c.report-report.result c.report-report.new.self
+    ap (with_fields s.machine.report) c.report-report.ensures.report
+    ∙ (λ i. report_at s.epoch s.case.flow (c.from-end.ensures i + 1) c.args.ack.now.now (c.cwnd-cwnd.ensures i) (c.rate-rate.ensures i) s.machine.report) in
+    noted-report s c.args.ack.now c.put_last_report.new.machine c.put_last_report.new.outbox (with_fields s.machine.report c.report-report.result) c.report-report.new.self
     put.machine
     (put.gained (reports_in s.machine.further s.outbox.slots) c.requires.can.lies)
     put.untold

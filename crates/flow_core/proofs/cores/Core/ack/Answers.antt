@@ -1,31 +1,62 @@
-use Rattle.std.proofs.Common.{◌≡◌, ◌<◌, ap, sym, ◌∙◌, subst, arith}
+use Rattle.std.proofs.Common.{◌≡◌, ℕ, ◌+◌, ◌<◌, List, length, arith, ap, sym, ◌∙◌, subst}
+use Rattle.std.proofs.lemmas.Bool.{lt-ltb}
+use Rattle.ccp_base.specs.declared.ack.Ack.{Ack}
 use Rattle.flow_core.specs.declared.case.Case.{Case}
 use Rattle.flow_core.specs.Readings.{over_codes}
-use Rattle.flow_core.specs.Cores.{CoreState, heard_in}
-use Rattle.flow_core.specs.Summaries.{step_ack}
-use Rattle.flow_core.specs.Bares.{BareState}
-use Rattle.flow_core.specs.Journals.{new_notice, world_by, IsCore}
-use Rattle.flow_core.proofs.CoreLemmas.{world-A, core-A}
+use Rattle.flow_core.specs.Cores.{CoreState, acked_as, acked_with, heard_in, ran_in}
+use Rattle.flow_core.specs.Summaries.{Summary, outcome_at}
+use Rattle.flow_core.specs.Bares.{instructions_at}
+use Rattle.flow_core.specs.BookFlows.{BookFlowState}
+use Rattle.flow_core.specs.Journals.{core_by}
+use Rattle.flow_core.proofs.CoreLemmas.{summary-is, count-is, world-A, core-A}
 use Rattle.flow_core.proofs.cores.Core.ack.Goals as goal
+
+-- an acknowledgement of the case is left
+left : (flow : BookFlowState) (acks : List Ack) (old : CoreState) → core_by flow acks ≡ old → (count most : ℕ) → count < most → count ≡ length old.acks
+    → most ≡ old.case.acks → length acks < flow.bare.case.acks
+left flow acks old same count most few is_count is_most =
+    subst (λ (core : CoreState). length core.acks < core.case.acks) (sym same) (omega (arith, few, is_count, is_most))
+
+pub ack-acked-requires : goal.ack-acked-requires
+ack-acked-requires g c =
+    let flow = c.self.inside.flow in
+    let acks = c.self.inside.acks in
+    let most = ap (λ (case : Case). case.acks) c.case.ensures.case in
+    let more = left flow acks.items c.args.self.now c.self.view_is c.acks.result c.case.result.now.acks c.if-acks-case.false c.acks.ensures most in
+    lt-ltb flow.bare.summary.acks flow.bare.case.acks (omega (arith, more, count-is flow acks c.self.invariant))
+
+pub push-requires : goal.push-requires
+push-requires g c =
+    let flow = c.self.inside.flow in
+    let acks = c.self.inside.acks in
+    let most = ap (λ (case : Case). case.acks) c.case.ensures.case in
+    let more = left flow acks.items c.args.self.now c.self.view_is c.acks.result c.case.result.now.acks c.if-acks-case.false c.acks.ensures most in
+    omega (arith, more, c.self.invariant.room)
 
 pub invariant_of-self : goal.invariant_of-self
 invariant_of-self g c =
-    let bare = c.self.inside.bare in
-    let j = c.self.inside.journal in
-    let most : c.case.result.now.acks ≡ bare.case.acks = ap (λ (case : Case). case.acks) c.case.ensures in
-    let left : bare.summary.acks < bare.case.acks = omega (arith, c.if-acks-case.false, c.acks.ensures, most) in
-    let fault = c.new_notice-fault.ensures ∙ (λ i. new_notice (c.ack-acked.ensures.acked i) ((c.untold.ensures ∙ (λ k. (c.ack-acked.ensures.step k).summary.untold)) i)) in
-    subst (λ (b : BareState). IsCore b c.put_ack.new.self) (sym c.ack-acked.ensures.step)
-    (subst (IsCore (record bare { summary = step_ack (over_codes bare.case) c.args.ack.now bare.summary })) (sym c.put_ack.ensures)
-    (core-A bare j c.self.invariant c.args.ack.now left c.new_notice-fault.result fault))
+    let flow = c.self.inside.flow in
+    let acks = c.self.inside.acks in
+    let most = ap (λ (case : Case). case.acks) c.case.ensures.case in
+    let more = left flow acks.items c.args.self.now c.self.view_is c.acks.result c.case.result.now.acks c.if-acks-case.false c.acks.ensures most in
+    core-A flow acks c.self.invariant c.args.ack.now c.ack-acked.new.self c.push.new.self c.ack-acked.ensures.ok c.push.ensures.whole more
 
 pub returns-clause-world : goal.returns-clause-world
 returns-clause-world g c =
-    let bare = c.self.inside.bare in
-    let j = c.self.inside.journal in
-    let most : c.case.result.now.acks ≡ bare.case.acks = ap (λ (case : Case). case.acks) c.case.ensures in
-    let left : bare.summary.acks < bare.case.acks = omega (arith, c.if-acks-case.false, c.acks.ensures, most) in
-    let fault = c.new_notice-fault.ensures ∙ (λ i. new_notice (c.ack-acked.ensures.acked i) ((c.untold.ensures ∙ (λ k. (c.ack-acked.ensures.step k).summary.untold)) i)) in
-    (λ i. world_by (c.ack-acked.ensures.step i) (c.put_ack.ensures i))
-    ∙ world-A bare j c.self.invariant c.args.ack.now left c.new_notice-fault.result fault
+    world-A c.self.inside.flow c.self.inside.acks c.self.invariant c.args.ack.now c.ack-acked.new.self c.push.new.self c.ack-acked.ensures.ok c.push.ensures.whole
     ∙ ap (λ (core : CoreState). heard_in core c.args.ack.now) c.self.view_is
+
+pub returns-clause-acked : goal.returns-clause-acked
+returns-clause-acked g c =
+    let flow = c.self.inside.flow in
+    c.ack-acked.ensures.acked
+    ∙ ap (λ (s : Summary). acked_as (outcome_at (over_codes flow.bare.case) c.args.ack.now s).0) (summary-is flow c.self.inside.acks c.self.invariant)
+    ∙ ap (λ (core : CoreState). acked_with core c.args.ack.now) c.self.view_is
+
+pub returns-clause-steps : goal.returns-clause-steps
+returns-clause-steps g c =
+    let flow = c.self.inside.flow in
+    let ran =
+    ap (instructions_at flow.bare.case c.args.ack.now) (summary-is flow c.self.inside.acks c.self.invariant)
+    ∙ ap (λ (core : CoreState). ran_in core c.args.ack.now) c.self.view_is in
+    c.ack-acked.ensures.steps ∙ ap (λ (n : ℕ). c.args.steps.now + n) ran

@@ -1,6 +1,6 @@
 use Rattle.std.proofs.Common.{ap, ◌∙◌, set}
+use Rattle.std.proofs.lemmas.List.{map-set}
 use Rattle.shared_run.specs.KnownFlows.{FlowRound}
-use Rattle.shared_run.proofs.KnownLemmas.{map-set}
 use Rattle.shared_run.proofs.known_flow.KnownFlows.keep.Goals as goal
 
 pub returns-then-number-len : goal.returns-then-number-len

@@ -1,6 +1,7 @@
 use Rattle.std.proofs.Common.{◌≡◌, ◌+◌, ap, ◌∙◌, set}
+use Rattle.std.proofs.lemmas.List.{map-set}
 use Rattle.shared_run.specs.KnownFlows.{FlowRound}
-use Rattle.shared_run.proofs.KnownLemmas.{map-set, place-known}
+use Rattle.shared_run.proofs.KnownLemmas.{place-known}
 use Rattle.shared_run.proofs.known_flow.KnownFlows.rest.Goals as goal
 
 pub returns : goal.returns

@@ -1,0 +1,41 @@
+//! What a machine's holder takes, reads and writes in place: a slot as it is, the last report's words, and the window.
+ghost use Rattle.std.specs.Prelude.{◌≡◌, ◌+◌, ◌≤◌, ◌↔◌, length, None, Some, option_map, IsErr, IfOk, OnOk};
+ghost use Rattle.ccp_base.specs.Limits.{most_fields};
+ghost use Rattle.slot_pool.specs.Pool.{words_at, free_of, ChangesSlot};
+
+use crate::machine::Machine;
+use crate::places::CWND;
+use reg_code::places;
+use slot_pool::{Full, Slot};
+
+impl Machine {
+    /// The fields of the last report, in order of declaration; none before it. As `reported`, without a copy.
+    pub fn reported_words(&self) -> &[u64]
+        ensures words { result.now ≡ self.now.report }
+        ensures within { length self.now.report ≤ most_fields }
+    {
+        &self.store.report()[..self.reported as usize]
+    }
+
+    /// As `take_slot`, but the slot has whatever words are in it: they aren't cleared.
+    pub fn take_slot_as_is(&mut self) -> Result<Slot, Full>
+        ensures full { IsErr result ↔ (free_of self.old.further ≡ 0) }
+        ensures was_free { IfOk result (λ slot. words_at self.old.further slot ≡ None) }
+        ensures taken { IfOk result (λ slot.
+            ChangesSlot self.old.further self.new.further slot (words_at self.new.further slot)) }
+        ensures len { IfOk result (λ slot.
+            option_map (λ words. length words) (words_at self.new.further slot) ≡ Some self.old.further.words) }
+        ensures counted { OnOk result (free_of self.new.further + 1 ≡ free_of self.old.further) }
+        ensures own { self.new ≡ record self.old { further = self.new.further } }
+    {
+        self.store.take_further_as_is()
+    }
+
+    /// Writes the congestion window, in bytes, and changes nothing else. As `update` with this one value.
+    pub fn set_cwnd(&mut self, cwnd: u64)
+        ensures { self.new ≡ record self.old { kept = record self.old.kept { cwnd = cwnd } } }
+    {
+        self.store.set_register(CWND, cwnd);
+        self.words[places::CWND] = cwnd;
+    }
+}
