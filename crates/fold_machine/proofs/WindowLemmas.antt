@@ -1,5 +1,5 @@
 -- What the machine's fields are once the window was written, in the slot of the registers and among the working words.
-use Rattle.std.proofs.Common.{◌≡◌, ℕ, Bool, List, length, length-set, slice_set, sym, ap, ◌∙◌, arith}
+use Rattle.std.proofs.Common.{◌≡◌, ℕ, Bool, List, length-set, slice_set, sym, ap, ◌∙◌, arith}
 use Rattle.reg_code.specs.CodeStep.{Kept, Regs}
 use Rattle.reg_code.specs.Places.{cwnd_at}
 use Rattle.reg_code.specs.declared.rule.Sizes.{Sizes}

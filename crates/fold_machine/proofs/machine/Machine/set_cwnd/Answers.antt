@@ -1,4 +1,4 @@
-use Rattle.std.proofs.Common.{ℕ, List, slice_set, sym, ap, ◌∙◌, subst}
+use Rattle.std.proofs.Common.{slice_set, sym, ap, ◌∙◌, subst}
 use Rattle.reg_code.specs.Places.{cwnd_at}
 use Rattle.fold_machine.specs.Store.{StoreState}
 use Rattle.fold_machine.specs.Whole.{machine_of, IsMachineWhole}
