@@ -10,6 +10,7 @@ pub mod FormLemmas
 pub mod FlagLemmas
 pub mod FlatLemmas
 pub mod FlatEntryLemmas
+pub mod FlatEndLemmas
 pub mod FlatWayLemmas
 pub mod WorkLemmas
 pub mod MachineLemmas
