@@ -4,9 +4,6 @@ use Rattle.std.specs.List.{list_all}
 use Rattle.std.proofs.Math.Seq.{take-append_seam, drop-append-add}
 use Rattle.std.proofs.lemmas.Bool.{and_parts}
 use Rattle.std.proofs.lemmas.Bool.Decides.{nat_tests}
-use Rattle.std.proofs.lemmas.List.{take-append-drop}
-use Rattle.std.proofs.lemmas.Slice.Eq.{bytes_eq-Decides}
-use Rattle.std.specs.Str.{bytes_eq}
 use Rattle.ccp_base.specs.declared.parts.Separator.TheVariants.{Blank}
 use Rattle.ccp_base.specs.Limits.{primitive_count}
 use Rattle.ccp_base.specs.Numerals.{numeral_of}
@@ -50,13 +47,6 @@ own n below rest =
     let whole : 0 + length name ≡ length name = omega arith in
     gives-at (name ++ 61 ∷ rest) (length name) n rest (equals_after 0 name rest is.bytes ∙ ap (λ k. Some k) whole)
     (ap value_named (take-append_seam name (61 ∷ rest)) ∙ is.found) (drop-append-add name (61 ∷ rest) 1)
-
--- a text whose front is a name
-pub front-named : (text name rest : List ℕ) → bytes_eq (take (length name) text) name ≡ true → rest ≡ drop (length name) text → text ≡ name ++ rest
-front-named text name rest same left =
-    sym (take-append-drop (length name) text)
-    ∙ ap (λ front. front ++ drop (length name) text) ((bytes_eq-Decides (take (length name) text) name).0 same)
-    ∙ ap (λ xs. name ++ xs) (sym left)
 
 -- a text that begins with a name and an equals sign
 pub gives-named : (text : List ℕ) (n : ℕ) (rest : List ℕ) → n < primitive_count → text ≡ primitive_word n ++ 61 ∷ rest → GivesNumeral text n rest

@@ -10,3 +10,4 @@ mod CutLaws
 pub mod NameLemmas
 mod ItemLemmas
 mod LineLemmas
+mod OneValueLemmas

@@ -4,8 +4,10 @@ pub mod FirstPart
 pub mod Separated
 pub mod AckLine
 pub mod Items
+pub mod Fronts
 pub mod Acknowledgements
 pub mod LineCount
+pub mod OneValue
 pub mod Ran
 pub mod Fold
 pub mod AnswerMeaning

@@ -81,6 +81,7 @@ fn read_words(values: &mut LineValues, followers: &mut Followers, line: &[u8]) -
             Some(after) => left = after,
         }
     }
+    followers.end_line(before);
     true
 }
 

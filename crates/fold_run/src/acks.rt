@@ -8,13 +8,15 @@ ghost use Rattle.fold_run.specs.declared.acks.LineFault.{LineFault};
 ghost use Rattle.fold_run.specs.declared.acks.LineFault.TheVariants as faults;
 ghost use Rattle.fold_run.specs.AckLine.{read_ack_line};
 ghost use Rattle.fold_run.specs.Acknowledgements.{with_line, acks_of_lines};
+ghost use Rattle.fold_run.specs.OneValue.{with_ack};
 
 use crate::ack_line::{LineKind, read_line};
 use crate::first_line::first_line;
 use crate::line_fault::before_memory;
 use crate::line_values::LineValues;
 use crate::names::Followers;
-use ccp_base::{Acks, NoMemory, ack_of, without_return};
+use crate::single_lines::put_single_lines;
+use ccp_base::{Ack, Acks, NoMemory, ack_of, without_return};
 use std::alloc::{AllocError, Global};
 
 /// The most acknowledgements of one input.
@@ -67,8 +69,9 @@ fn kept_acks(alloc: Global, lines: &[u8], next: u64) -> Result<Acks, LineFault>
     while !rest.is_empty() {
         let (line, after) = first_line(rest);
         put_line(&mut acks, &mut followers, number, without_return(line))?;
-        rest = after;
-        number += 1;
+        let left = put_single_lines(&mut acks, followers.alone(), number + 1, after)?;
+        rest = left.text;
+        number = left.number;
     }
     Ok(acks)
 }
@@ -100,12 +103,21 @@ fn put_line(
     match read_line(&mut values, followers, line) {
         LineKind::Nothing => Ok(()),
         LineKind::Refused => Err(LineFault::Line(number)),
-        LineKind::Given => {
-            if acks.len() >= MOST_ACKS {
-                return Err(LineFault::TooMany);
-            }
-            acks.push(ack_of(&values.numbers))?;
-            Ok(())
-        }
+        LineKind::Given => put_ack(acks, ack_of(&values.numbers)),
     }
+}
+
+/// Appends an acknowledgement, if an input may have one more.
+#[inline(always)]
+pub fn put_ack(acks: &mut Acks, ack: Ack) -> Result<(), LineFault>
+    requires { length acks.old ≤ most_acks }
+    ensures ok { OnOk result (with_ack acks.old ack ≡ Ok acks.new) }
+    ensures err { IfErr result (λ e. e ≢ faults.NoMemory no_memory → with_ack acks.old ack ≡ Err e) }
+    ensures within { length acks.new ≤ most_acks }
+{
+    if acks.len() >= MOST_ACKS {
+        return Err(LineFault::TooMany);
+    }
+    acks.push(ack)?;
+    Ok(())
 }

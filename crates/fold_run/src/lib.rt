@@ -9,12 +9,14 @@ mod first_line;
 mod fold;
 mod folded;
 mod folding;
+mod front;
 mod laws;
 mod line_fault;
 mod line_number;
 mod line_values;
 mod names;
 mod separated;
+mod single_lines;
 
 pub use acks::{LineFault, acknowledgements};
 pub use folded::Folded;

@@ -7,7 +7,7 @@ ghost use Rattle.fold_run.specs.AckLine.{no_values, with_number, some_if};
 use ccp_base::{PRIMITIVES, is_flag};
 
 /// How many values a line may give: one for each primitive.
-const VALUES: usize = PRIMITIVES as usize;
+pub const VALUES: usize = PRIMITIVES as usize;
 
 /// The values that a line gives, each at the number of its primitive.
 #[derive(Clone, Copy)]

@@ -5,10 +5,11 @@ ghost use Rattle.ccp_base.specs.Limits.{primitive_count};
 ghost use Rattle.ccp_base.specs.Parts.{separates};
 ghost use Rattle.fold_run.specs.Items.{primitive_word, GivesNumeral, GivesNothing};
 
+use crate::front::after_front;
 use ccp_base::{PRIMITIVE_NAMES, PRIMITIVES, value_named};
 use memchr::memchr;
 
-/// The place of a line's begin among the numbers of names: after those of the primitives.
+/// The place of a line's begin, and of its end, among the numbers of names: after those of the primitives.
 pub const LINE_BEGIN: usize = PRIMITIVES as usize;
 
 /// The places after which a name stands: each name, and a line's begin.
@@ -23,8 +24,8 @@ pub struct Item<'a> {
     pub rest: &'a [u8],
 }
 
-/// Which name followed each name last time, and a line's begin: lines mostly name the same values in the same order, so
-/// the name that is tried first is mostly the right one.
+/// Which name, or the line's end, followed each name last time, and a line's begin: lines mostly name the same values
+/// in the same order, so the name that is tried first is mostly the right one.
 #[derive(Clone, Copy)]
 pub struct Followers {
     numbers: [usize; PLACES],
@@ -59,6 +60,24 @@ impl Followers {
         let item = searched_item(text)?;
         self.numbers[before] = item.number;
         Some(item)
+    }
+
+    /// Notes that a line ended after the name with this number.
+    pub fn end_line(&mut self, last: usize)
+        requires { last ≤ primitive_count }
+    {
+        self.numbers[last] = LINE_BEGIN;
+    }
+
+    /// The number of the name that a line is expected to have alone; None if it is expected to have more.
+    #[inline(always)]
+    pub fn alone(&self) -> Option<usize> {
+        let first = self.numbers[LINE_BEGIN];
+        if first < LINE_BEGIN && self.numbers[first] == LINE_BEGIN {
+            Some(first)
+        } else {
+            None
+        }
     }
 }
 
@@ -107,7 +126,7 @@ fn after_name(text: &[u8], number: usize) -> Option<&[u8]>
 // A function of its own: its clauses are those of an arm above, and each arm calls it with a number that is known.
 /// What follows the name of a primitive and an equals sign, if a text begins with them.
 #[inline(always)]
-fn after_known(text: &[u8], number: usize) -> Option<&[u8]>
+pub fn after_known(text: &[u8], number: usize) -> Option<&[u8]>
     ensures after { IfSome result (λ rest. text.now ≡ primitive_word number ++ 61 ∷ rest.now) }
     ensures below { IfSome result (λ _. number < primitive_count) }
 {
@@ -119,7 +138,11 @@ fn after_known(text: &[u8], number: usize) -> Option<&[u8]>
 fn after_equals<'a>(text: &'a [u8], name: &[u8]) -> Option<&'a [u8]>
     ensures { IfSome result (λ rest. text.now ≡ name.now ++ 61 ∷ rest.now) }
 {
-    let Some(behind) = text.strip_prefix(name) else {
+    // with one test of the text's length the compiler leaves out those of its parts
+    if text.len() <= name.len() {
+        return None;
+    }
+    let Some(behind) = after_front(text, name) else {
         return None;
     };
     match behind.split_first() {

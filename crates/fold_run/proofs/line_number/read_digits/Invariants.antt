@@ -6,7 +6,7 @@ use Rattle.fold_run.proofs.line_number.read_digits.Given as goal
 
 abbrev pub invariant-loop-byte : goal.invariant-loop-byte
 invariant-loop-byte l = record {
-  number : value_after (Some l.number) (first_of Blank l.left) ≡ value_after (Some 0) (first_of Blank l.text);
+  number : value_after (Some l.number) (first_of Blank l.left) ≡ value_after (Some l.before) (first_of Blank l.text);
   after : after_separator Blank l.left ≡ after_separator Blank l.text;
   fits : l.number < 2 ^ 64;
 }

@@ -1,10 +1,8 @@
 use Rattle.std.proofs.Common.{◌∷◌, ◌++◌, ap, ◌∙◌}
-use Rattle.fold_run.proofs.ItemLemmas.{front-named}
 use Rattle.fold_run.proofs.names.after_equals.Goals as goal
 
 pub returns-in-Some-split_first : goal.returns-in-Some-split_first
 returns-in-Some-split_first c =
     let name = c.args.name.now in
     let rest = c.in-Some-split_first.rest.now in
-    front-named c.args.text.now name c.in-Some.behind.now c.in-Some.ensures.cases.0 c.in-Some.ensures.cases.1
-    ∙ ap (λ xs. name ++ xs) (c.in-Some-split_first.ensures.cases.0 ∙ ap (λ byte. byte ∷ rest) c.if-first-eq61.true)
+    c.in-Some.ensures ∙ ap (λ xs. name ++ xs) (c.in-Some-split_first.ensures.cases.0 ∙ ap (λ byte. byte ∷ rest) c.if-first-eq61.true)
