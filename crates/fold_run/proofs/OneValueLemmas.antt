@@ -1,5 +1,5 @@
 -- What a line says that is a name, an equals sign and digits alone.
-use Rattle.std.proofs.Common.{◌≡◌, ℕ, zero, suc, ◌+◌, ◌-◌, ◌*◌, ◌^◌, ◌<◌, Bool, true, false, not, ◌&&◌, ◌||◌, cond, nat_lt, eqb, Some, None, Ok, List, [], ◌∷◌, ◌++◌, length, replicate, slice_get, slice_set, slice_index_or, refl, ap, ap₂, sym, subst, ◌∙◌, arith, length-append}
+use Rattle.std.proofs.Common.{◌≡◌, ℕ, zero, suc, ◌+◌, ◌-◌, ◌*◌, ◌^◌, ◌<◌, Bool, true, false, not, ◌&&◌, ◌||◌, cond, nat_lt, eqb, Some, None, Ok, List, [], ◌∷◌, ◌++◌, length, replicate, slice_set, slice_index_or, refl, ap, ap₂, sym, subst, ◌∙◌, arith, length-append}
 use Rattle.std.specs.List.{list_all}
 use Rattle.std.proofs.lemmas.Bool.{and_parts}
 use Rattle.std.proofs.lemmas.Bool.Decides.{nat_tests}
@@ -11,7 +11,7 @@ use Rattle.ccp_base.specs.Limits.{primitive_count}
 use Rattle.ccp_base.specs.Numerals.{is_digit, value_after, numeral_of}
 use Rattle.ccp_base.specs.Parts.{separates, parts_of, without_last}
 use Rattle.fold_run.specs.declared.line_values.LineValues.{LineValues}
-use Rattle.fold_run.specs.AckLine.{refused, given, no_values, with_number, with_line_value, with_one_word, with_each_word, given_or_refused, is_blank_at, begins_word, ends_blank, read_ack_line}
+use Rattle.fold_run.specs.AckLine.{refused, given, no_values, with_number, with_line_value, with_one_word, with_each_word, given_or_refused, is_blank_at, begins_word, read_ack_line}
 use Rattle.fold_run.specs.Acknowledgements.{with_line, with_lines}
 use Rattle.fold_run.specs.FirstPart.{first_of, after_separator}
 use Rattle.fold_run.specs.Items.{primitive_word}

@@ -1,4 +1,4 @@
-use Rattle.std.proofs.Common.{◌≡◌, ◌∙◌, Some, ap, sym}
+use Rattle.std.proofs.Common.{◌∙◌, Some, ap, sym}
 use Rattle.fold_run.specs.AckLine.{some_if, with_line_value}
 use Rattle.fold_run.proofs.ack_line.read_word.Goals as goal
 
