@@ -82,7 +82,7 @@ impl Pool {
         ensures counted { OnOk result (free_of self.new + 1 ≡ free_of self.old) }
         ensures unchanged { OnErr result (self.new ≡ self.old) }
     {
-        if self.free == 0usize {
+        if self.free == 0 {
             return Err(Full);
         }
         let first = self.first_free;
