@@ -2,6 +2,7 @@
 use Rattle.std.proofs.Common.{◌≡◌, ℕ, ◌+◌, ◌*◌, ◌/◌, ◌^◌, ◌<◌, ◌≤◌, ◌==◌, ◌||◌, Bool, true, false, List, [], ◌∷◌, refl, sym, subst, arith}
 use Rattle.std.specs.Prelude.{◌-◌, nat_lt, nat_le, max, if◌then◌else◌}
 use Rattle.std.proofs.Math.Nat.{div-le_of_le-mul, mul-le-mul_left, mul_comm}
+use Rattle.std.proofs.lemmas.Bool.{eq-eqb, lt-ltb, le-ltb, ltb-false}
 use Rattle.std.proofs.lemmas.Bool.Decides.{nat_tests}
 use Rattle.ccp_base.specs.Limits.{most_flight}
 use Rattle.ccp_base.specs.Saturating.{◌+ˢ◌, muldiv}
@@ -34,9 +35,6 @@ reply_when P test a b holds fits = subst (λ (t : Bool). P (if t then a else b).
 
 none_below : (n : ℕ) → n ≡ 0 → nat_lt 0 n ≡ false
 none_below n none = grind (arith, nat_tests)
-
-some_below : (n : ℕ) → 0 < n → nat_lt 0 n ≡ true
-some_below n some = grind (arith, nat_tests)
 
 one_shown : (a b : ℕ) → 0 < a + b → (nat_lt 0 a || nat_lt 0 b) ≡ true
 one_shown a b some = grind (arith, nat_tests)
@@ -272,7 +270,7 @@ halves_heard s report segment shown =
 
 restarts_shown : (r : Measurement) (s : RenoState) → IsSegment s.mss → 0 < r.timeout → Restarts s r (after_measurement r s).1
 restarts_shown r s segment out =
-    reply_when (Restarts s r) (nat_lt 0 r.timeout) (after_timeout r s) _ (some_below r.timeout out) (refl, refl, is_cut s.mss r segment)
+    reply_when (Restarts s r) (nat_lt 0 r.timeout) (after_timeout r s) _ (lt-ltb 0 r.timeout out) (refl, refl, is_cut s.mss r segment)
 
 restarts_measured : (mode : Phase) (r : Measurement) (s : RenoState) → IsSegment s.mss → 0 < r.timeout
     → Restarts s r (after_measurement r (window_told mode r s)).1
@@ -286,13 +284,10 @@ restarts_heard s report segment out =
 
 -- ---- calm
 
-not_before : (now calm : ℕ) → nat_lt now calm ≡ false → calm ≤ now
-not_before now calm none = grind (arith, nat_tests)
-
 reply_later : (P : Reply → Type 0) (before : Bool) (now calm : ℕ) (a b : Replied) → nat_lt now calm ≡ before → P a.1
     → (calm ≤ now → P b.1) → P (if before then a else b).1
 reply_later P true now calm a b is early late = early
-reply_later P false now calm a b is early late = late (not_before now calm is)
+reply_later P false now calm a b is early late = late (ltb-false now calm is)
 
 calm_loss : (r : Measurement) (s : RenoState) → IsCalm s r (after_loss r s).1
 calm_loss r s = reply_later (IsCalm s r) (nat_lt r.now s.calm) r.now s.calm _ _ refl tt (λ calm. calm)
@@ -318,20 +313,14 @@ calm_heard s report start none =
 
 -- ---- what is answered
 
-is_before : (now calm : ℕ) → calm ≤ now → nat_lt now calm ≡ false
-is_before now calm past = grind (arith, nat_tests)
-
-is_same : (a b : ℕ) → a ≡ b → (a == b) ≡ true
-is_same a b same = grind (arith, nat_tests)
-
 loss_heeded : (r : Measurement) (s : RenoState) → ShowsLoss r → s.calm ≤ r.now → IsSomething (after_measurement r s).1
 loss_heeded r s shown past =
     reply_unless IsSomething (nat_lt 0 r.timeout) (after_timeout r s) _ (none_below r.timeout shown.0)
     (reply_when IsSomething (nat_lt 0 r.loss || nat_lt 0 r.ecn) (after_loss r s) (in_phase s.course.mode r s) (one_shown r.loss r.ecn shown.1)
-    (reply_unless IsSomething (nat_lt r.now s.calm) (s, Nothing) _ (is_before r.now s.calm past) tt))
+    (reply_unless IsSomething (nat_lt r.now s.calm) (s, Nothing) _ (le-ltb r.now s.calm past) tt))
 
 timeout_heeded : (r : Measurement) (s : RenoState) → 0 < r.timeout → IsSomething (after_measurement r s).1
-timeout_heeded r s out = reply_when IsSomething (nat_lt 0 r.timeout) (after_timeout r s) _ (some_below r.timeout out) tt
+timeout_heeded r s out = reply_when IsSomething (nat_lt 0 r.timeout) (after_timeout r s) _ (lt-ltb 0 r.timeout out) tt
 
 told_calm : (mode : Phase) (r : Measurement) (s : RenoState) → (window_told mode r s).calm ≡ s.calm
 told_calm SlowStart r s = refl
@@ -341,7 +330,7 @@ heeds : (s : RenoState) (report : Report) → report.epoch ≡ s.course.epoch �
     → IsSomething (reply_to s report)
 heeds s report same heeded =
     reply_when IsSomething (report.epoch == s.course.epoch) (after_told (told.Report report) s) (s, Nothing)
-    (is_same report.epoch s.course.epoch same) heeded
+    (eq-eqb report.epoch s.course.epoch same) heeded
 
 -- ---- one change in a round-trip time
 
@@ -356,7 +345,7 @@ module _ (time : ℕ) (fits : time ≤ 2 ^ 64 - 1) where
   past_later : (before : Bool) (now calm : ℕ) (a b : Replied) → nat_lt now calm ≡ before → IsPast a → (calm ≤ now → IsPast b)
       → IsPast (if before then a else b)
   past_later true now calm a b is early late = early
-  past_later false now calm a b is early late = late (not_before now calm is)
+  past_later false now calm a b is early late = late (ltb-false now calm is)
 
   past_loss : (r : Measurement) (s : RenoState) → time ≤ s.calm → IsPast (after_loss r s)
   past_loss r s h = past_later (nat_lt r.now s.calm) r.now s.calm _ _ refl h (λ past. omega (arith, fits, h, past))
