@@ -2,6 +2,7 @@
 use Rattle.std.proofs.Common.{◌≡◌, ℕ, ◌+◌, ◌*◌, ◌/◌, ◌^◌, ◌<◌, ◌≤◌, ◌==◌, ◌||◌, Bool, true, false, List, [], ◌∷◌, refl, ap, sym, ◌∙◌, subst, arith}
 use Rattle.std.specs.Prelude.{◌-◌, nat_lt, nat_le, min, max, if◌then◌else◌}
 use Rattle.std.proofs.Math.Nat.{div-le_of_le-mul, mul-le-mul_right, min-le_right}
+use Rattle.std.proofs.lemmas.Bool.{eq-eqb, lt-ltb, le-ltb, ltb-false}
 use Rattle.std.proofs.lemmas.Bool.Decides.{nat_tests}
 use Rattle.ccp_base.specs.Saturating.{◌+ˢ◌, ◌*ˢ◌, muldiv, clamped}
 use Rattle.ccp_base.specs.Measurement.{measurement_of}
@@ -35,9 +36,6 @@ reply_when P test a b holds fits = subst (λ (t : Bool). P (if t then a else b).
 
 none_below : (n : ℕ) → n ≡ 0 → nat_lt 0 n ≡ false
 none_below n none = grind (arith, nat_tests)
-
-some_below : (n : ℕ) → 0 < n → nat_lt 0 n ≡ true
-some_below n some = grind (arith, nat_tests)
 
 one_shown : (a b : ℕ) → 0 < a + b → (nat_lt 0 a || nat_lt 0 b) ≡ true
 one_shown a b some = grind (arith, nat_tests)
@@ -381,7 +379,7 @@ falls r s segment most shown =
 
 begins : (r : Measurement) (s : CubicState) → IsSegment s.mss → s.window ≤ most_window → 0 < r.timeout → Begins s (after_measurement r s).1
 begins r s segment most out =
-    reply_when (Begins s) (nat_lt 0 r.timeout) (after_timeout s) _ (some_below r.timeout out)
+    reply_when (Begins s) (nat_lt 0 r.timeout) (after_timeout s) _ (lt-ltb 0 r.timeout out)
     (refl, bytes_one s.mss segment, is_decrease s.mss s.window segment most)
 
 decreases_measured : (mode : Phase) (r : Measurement) (s : CubicState) → IsSegment s.mss → s.window ≤ most_window → ShowsLoss r
@@ -408,13 +406,10 @@ restarts_heard s report segment most out =
 
 -- ---- calm
 
-not_before : (now calm : ℕ) → nat_lt now calm ≡ false → calm ≤ now
-not_before now calm none = grind (arith, nat_tests)
-
 reply_later : (P : Reply → Type 0) (before : Bool) (now calm : ℕ) (a b : Replied) → nat_lt now calm ≡ before → P a.1
     → (calm ≤ now → P b.1) → P (if before then a else b).1
 reply_later P true now calm a b is early late = early
-reply_later P false now calm a b is early late = late (not_before now calm is)
+reply_later P false now calm a b is early late = late (ltb-false now calm is)
 
 calm_loss : (r : Measurement) (s : CubicState) → IsCalm s r (after_loss r s).1
 calm_loss r s = reply_later (IsCalm s r) (nat_lt r.now s.calm) r.now s.calm _ _ refl tt (λ calm. calm)
@@ -440,20 +435,14 @@ calm_heard s report start none =
 
 -- ---- what is answered
 
-is_before : (now calm : ℕ) → calm ≤ now → nat_lt now calm ≡ false
-is_before now calm past = grind (arith, nat_tests)
-
-is_same : (a b : ℕ) → a ≡ b → (a == b) ≡ true
-is_same a b same = grind (arith, nat_tests)
-
 loss_heeded : (r : Measurement) (s : CubicState) → ShowsLoss r → s.calm ≤ r.now → IsSomething (after_measurement r s).1
 loss_heeded r s shown past =
     reply_unless IsSomething (nat_lt 0 r.timeout) (after_timeout s) _ (none_below r.timeout shown.0)
     (reply_when IsSomething (nat_lt 0 r.loss || nat_lt 0 r.ecn) (after_loss r s) (in_phase s.course.mode r s) (one_shown r.loss r.ecn shown.1)
-    (reply_unless IsSomething (nat_lt r.now s.calm) (s, Nothing) _ (is_before r.now s.calm past) tt))
+    (reply_unless IsSomething (nat_lt r.now s.calm) (s, Nothing) _ (le-ltb r.now s.calm past) tt))
 
 timeout_heeded : (r : Measurement) (s : CubicState) → 0 < r.timeout → IsSomething (after_measurement r s).1
-timeout_heeded r s out = reply_when IsSomething (nat_lt 0 r.timeout) (after_timeout s) _ (some_below r.timeout out) tt
+timeout_heeded r s out = reply_when IsSomething (nat_lt 0 r.timeout) (after_timeout s) _ (lt-ltb 0 r.timeout out) tt
 
 told_calm : (mode : Phase) (r : Measurement) (s : CubicState) → (window_told mode r s).calm ≡ s.calm
 told_calm SlowStart r s = refl
@@ -463,7 +452,7 @@ heeds : (s : CubicState) (report : Report) → report.epoch ≡ s.course.epoch �
     → IsSomething (reply_to s report)
 heeds s report same heeded =
     reply_when IsSomething (report.epoch == s.course.epoch) (after_told (told.Report report) s) (s, Nothing)
-    (is_same report.epoch s.course.epoch same) heeded
+    (eq-eqb report.epoch s.course.epoch same) heeded
 
 -- ---- one change in a round-trip time
 
@@ -478,7 +467,7 @@ module _ (time : ℕ) (fits : time ≤ 2 ^ 64 - 1) where
   past_later : (before : Bool) (now calm : ℕ) (a b : Replied) → nat_lt now calm ≡ before → IsPast a → (calm ≤ now → IsPast b)
       → IsPast (if before then a else b)
   past_later true now calm a b is early late = early
-  past_later false now calm a b is early late = late (not_before now calm is)
+  past_later false now calm a b is early late = late (ltb-false now calm is)
 
   past_loss : (r : Measurement) (s : CubicState) → time ≤ s.calm → IsPast (after_loss r s)
   past_loss r s h = past_later (nat_lt r.now s.calm) r.now s.calm _ _ refl h (λ past. omega (arith, fits, h, past))
