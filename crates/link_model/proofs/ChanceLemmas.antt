@@ -1,9 +1,8 @@
 -- The first chance at or after a time: what the definition's search finds is it, and how chances and turns are ordered.
-use Rattle.std.proofs.Common.{◌≡◌, ℕ, zero, suc, ◌+◌, ◌-◌, ◌*◌, ◌/◌, ◌%◌, ◌<◌, ◌≤◌, Bool, true, false, leb, ltb, List, length, get_or, refl, ap, sym, ◌∙◌, arith, inl, inr, max}
+use Rattle.std.proofs.Common.{◌≡◌, ℕ, zero, suc, ◌+◌, ◌-◌, ◌*◌, ◌/◌, ◌%◌, ◌<◌, ◌≤◌, Bool, true, false, leb, List, length, get_or, refl, ap, sym, ◌∙◌, arith, inl, inr, max}
 use Rattle.std.proofs.Math.Nat.{mul-le-mul_left, div-add-mod, mod-lt, div-mul-le_self, div-le_of_le-mul, mul-div-le, lt-div-mul-add}
 use Rattle.std.proofs.lemmas.Nat.{le-div, div-mul-add, mod-mul-add, mul-le}
-use Rattle.std.proofs.lemmas.Bool.{cases_lt, leb-true, le-leb}
-use Rattle.std.proofs.lemmas.Bool.Decides.{nat_tests}
+use Rattle.std.proofs.lemmas.Bool.{cases_lt, leb-true, le-leb, leb-false}
 use Rattle.link_model.specs.Traces.{period, IsTrace}
 use Rattle.link_model.specs.Chances.{IsFirstChance, chance_time, first_passing, first_chance}
 
@@ -36,9 +35,6 @@ first_passing_first passes zero here last =
 first_passing_first passes (suc steps) here last =
     first_step passes (first_passing passes steps (suc here)) here (passes here) refl
     (λ _. first_passing_first passes steps (suc here) (let same : suc here + steps ≡ here + suc steps = omega arith in ap passes same ∙ last))
-
-pub not_below : (a b : ℕ) → ltb a b ≡ false → b ≤ a
-not_below a b is = grind (arith, nat_tests)
 
 -- ---- the times of chances
 
@@ -115,11 +111,8 @@ module _ (times : List ℕ) (trace : IsTrace times) where
   pub first_chance_at : (at from : ℕ) → at ≤ chance_time times (first_chance times at from)
   first_chance_at at from = leb-true _ _ (first_chance_first at from).passing
 
-  not_before : (at t : ℕ) → leb at t ≡ false → t < at
-  not_before at t is = grind (arith, nat_tests)
-
   pub first_chance_before : (at from j : ℕ) → from ≤ j → j < first_chance times at from → chance_time times j < at
-  first_chance_before at from j above under = not_before at (chance_time times j) ((first_chance_first at from).before j above under)
+  first_chance_before at from j above under = leb-false at (chance_time times j) ((first_chance_first at from).before j above under)
 
   -- a chance comes at or after a time exactly from the first such chance on
   pub first_chance_le : (at j : ℕ) → at ≤ chance_time times j → first_chance times at 0 ≤ j

@@ -1,6 +1,6 @@
 -- The packets in flight of the definition against those that a link keeps.
-use Rattle.std.proofs.Common.{◌≡◌, ℕ, suc, ◌+◌, ◌<◌, ◌≤◌, Bool, true, false, cond, eqb, ltb, ◌||◌, ◌&&◌, List, [], ◌∷◌, ◌++◌, length, refl, ap, ◌∙◌, arith}
-use Rattle.std.proofs.lemmas.Bool.Decides.{nat_tests}
+use Rattle.std.proofs.Common.{◌≡◌, ℕ, suc, ◌+◌, ◌<◌, ◌≤◌, Bool, true, false, cond, eqb, ltb, ◌&&◌, List, [], ◌∷◌, ◌++◌, length, refl, ap, ◌∙◌, arith}
+use Rattle.std.proofs.lemmas.Bool.{and_right, or_from, or_left, or_right, eq-eqb, ne_eqb, lt-ltb, le-ltb}
 use Rattle.link_model.specs.Link.{Packet, Fate, Lost, Served, Taking, packet_and_lost_below, all_below, GivenAck, Numbered, takes, left_by, lost_by, is_lost, in_flight, Next, arrives, all_lost, next_by, next_arrival}
 use Rattle.link_model.specs.Flights.{RisesFrom, AllBelow, TakesBelow, AllTakeBelow}
 use Rattle.link_model.specs.Standing.{packets_of}
@@ -53,22 +53,14 @@ all_take_below-more bound more [] order below = tt
 all_take_below-more bound more (given ∷ earlier) order below =
     (takes_below-more bound more given.taking order below.0, all_take_below-more bound more earlier order below.1)
 
-not_either : (a b c : Bool) → a ≡ false → c ≡ false → a || (b && c) ≡ false
-not_either true b c not_a not_c = not_a
-not_either false true c not_a not_c = not_c
-not_either false false c not_a not_c = refl
-
-apart : (a b : ℕ) → a < b → eqb b a ≡ false
-apart a b below = grind (arith, nat_tests)
-
-not_under : (a b : ℕ) → a ≤ b → ltb b a ≡ false
-not_under a b order = grind (arith, nat_tests)
-
 -- a later packet isn't taken away
 pub not_taken : (taking : Taking) (sent : Numbered) → TakesBelow sent.number taking → takes taking sent ≡ false
 not_taken (packet_and_lost_below number) sent below =
-    not_either (eqb sent.number number) (is_lost sent.packet.fate) (ltb sent.number number) (apart number sent.number below) (not_under number sent.number (omega arith))
-not_taken (all_below count) sent below = not_under count sent.number below
+    let earlier : number < sent.number = below in
+    let other = ne_eqb sent.number number (λ same. omega (arith, earlier, same)) in
+    let later = le-ltb sent.number number (omega (arith, earlier)) in
+    or_from (eqb sent.number number) (is_lost sent.packet.fate && ltb sent.number number) other (and_right (is_lost sent.packet.fate) (ltb sent.number number) later)
+not_taken (all_below count) sent below = le-ltb sent.number count below
 
 left_by-append : (taking : Taking) (xs ys : List Numbered) → left_by taking (xs ++ ys) ≡ left_by taking xs ++ left_by taking ys
 left_by-append taking [] ys = refl
@@ -96,14 +88,11 @@ length-packets_of (sent ∷ rest) = ap suc (length-packets_of rest)
 
 -- ---- an acknowledgement
 
-below_is : (a b : ℕ) → a < b → ltb a b ≡ true
-below_is a b below = grind (arith, nat_tests)
-
 -- a timeout takes all away
 pub left_by-all_below : (bound : ℕ) (flight : List Numbered) → AllBelow bound flight → left_by (all_below bound) flight ≡ []
 left_by-all_below bound [] below = refl
 left_by-all_below bound (sent ∷ rest) below =
-    ap (λ b. cond b (left_by (all_below bound) rest) (sent ∷ left_by (all_below bound) rest)) (below_is sent.number bound below.0) ∙ left_by-all_below bound rest below.1
+    ap (λ b. cond b (left_by (all_below bound) rest) (sent ∷ left_by (all_below bound) rest)) (lt-ltb sent.number bound below.0) ∙ left_by-all_below bound rest below.1
 
 -- an acknowledgement takes nothing later away
 left_by-later : (number from : ℕ) (flight : List Numbered) → RisesFrom from flight → number < from → left_by (packet_and_lost_below number) flight ≡ flight
@@ -126,24 +115,13 @@ MatchNext flight from lost (arrives number sent_at chance marked) =
     × (packets_of (left_by (packet_and_lost_below number) flight) ≡ staying (packets_of flight))
     × (from ≤ number)
 
-or_right : (a b : Bool) → b ≡ true → a || b ≡ true
-or_right true b is = refl
-or_right false b is = is
-
-or_left : (a b : Bool) → a ≡ true → a || b ≡ true
-or_left true b is = refl
-or_left false b is = absurd (let h : false ≡ true = is in (cc))
-
-same_is : (a : ℕ) → eqb a a ≡ true
-same_is a = grind (arith, nat_tests)
-
 match_lost : (sent_number sent_at from lost : ℕ) (rest : List Numbered) (next : Next) → from ≤ sent_number → MatchNext rest (sent_number + 1) (lost + 1) next
     → MatchNext (record { number = sent_number; packet = record { sent_at = sent_at; fate = Lost } } ∷ rest) from lost next
 match_lost sent_number sent_at from lost rest all_lost order same =
     (same.0 ∙ ap AllLost (let e : lost + 1 + length rest ≡ lost + suc (length rest) = omega arith in e), same.1)
 match_lost sent_number sent_at from lost rest (arrives number sent_at' chance marked) order same =
     let sent : Numbered = record { number = sent_number; packet = record { sent_at = sent_at; fate = Lost } } in
-    let taken : takes (packet_and_lost_below number) sent ≡ true = or_right (eqb sent_number number) (ltb sent_number number) (below_is sent_number number (omega (arith, same.2))) in
+    let taken : takes (packet_and_lost_below number) sent ≡ true = or_right (eqb sent_number number) (ltb sent_number number) (lt-ltb sent_number number (omega (arith, same.2))) in
     let lost_is : lost_by (packet_and_lost_below number) (sent ∷ rest) ≡ lost_by (packet_and_lost_below number) rest + 1 =
     ap (λ b. cond (b && true) (lost_by (packet_and_lost_below number) rest + 1) (lost_by (packet_and_lost_below number) rest)) taken in
     let left_is : left_by (packet_and_lost_below number) (sent ∷ rest) ≡ left_by (packet_and_lost_below number) rest =
@@ -157,7 +135,7 @@ match_served : (number sent_at chance from lost : ℕ) (marked : Bool) (rest : L
     → MatchNext (record { number = number; packet = record { sent_at = sent_at; fate = Served chance marked } } ∷ rest) from lost (arrives number sent_at chance marked)
 match_served number sent_at chance from lost marked rest order rises =
     let sent : Numbered = record { number = number; packet = record { sent_at = sent_at; fate = Served chance marked } } in
-    let taken : takes (packet_and_lost_below number) sent ≡ true = or_left (eqb number number) (false && ltb number number) (same_is number) in
+    let taken : takes (packet_and_lost_below number) sent ≡ true = or_left (eqb number number) (false && ltb number number) (eq-eqb number number refl) in
     let lost_is : lost_by (packet_and_lost_below number) (sent ∷ rest) ≡ lost_by (packet_and_lost_below number) rest =
     elim (takes (packet_and_lost_below number) sent) as (λ b. cond (b && false) (lost_by (packet_and_lost_below number) rest + 1) (lost_by (packet_and_lost_below number) rest) ≡ lost_by (packet_and_lost_below number) rest)
     [ true ↦ refl | false ↦ refl ] in

@@ -1,31 +1,20 @@
 -- The losses listed: whether a number is among them, by the place of the first one that isn't below it.
-use Rattle.std.proofs.Common.{◌≡◌, ◌≢◌, ℕ, zero, suc, ◌+◌, ◌<◌, ◌≤◌, Bool, true, false, eqb, ◌||◌, List, [], ◌∷◌, length, get_or, refl, ap, sym, ◌∙◌, arith, inl, inr}
+use Rattle.std.proofs.Common.{◌≡◌, ◌≢◌, ℕ, zero, suc, ◌+◌, ◌<◌, ◌≤◌, true, false, eqb, List, [], ◌∷◌, length, get_or, refl, ap, sym, ◌∙◌, arith, inl, inr}
 use Rattle.std.specs.List.Sorted.{IsStrictlyIncreasing}
 use Rattle.std.proofs.lemmas.List.{get_or_default}
-use Rattle.std.proofs.lemmas.Bool.{cases_lt}
+use Rattle.std.proofs.lemmas.Bool.{cases_lt, or_from, or_right, eq-eqb, ne_eqb}
 use Rattle.std.proofs.lemmas.Bool.Decides.{nat_tests}
 use Rattle.link_model.specs.Link.{is_listed}
-
-or_true : (a b : Bool) → b ≡ true → a || b ≡ true
-or_true true b is = refl
-or_true false b is = is
 
 pub is_listed-at : (number : ℕ) (losses : List ℕ) (i : ℕ) → i < length losses → get_or losses i 0 ≡ number → is_listed number losses ≡ true
 is_listed-at number [] i within is = absurd (omega arith)
 is_listed-at number (other ∷ rest) zero within is = grind (arith, nat_tests)
-is_listed-at number (other ∷ rest) (suc i) within is = or_true (eqb other number) (is_listed number rest) (is_listed-at number rest i (omega arith) is)
-
-neither : (a b : Bool) → a ≡ false → b ≡ false → a || b ≡ false
-neither true b not_a not_b = not_a
-neither false b not_a not_b = not_b
-
-not_equal : (a b : ℕ) → a ≢ b → eqb a b ≡ false
-not_equal a b other = grind (arith, nat_tests)
+is_listed-at number (other ∷ rest) (suc i) within is = or_right (eqb other number) (is_listed number rest) (is_listed-at number rest i (omega arith) is)
 
 pub is_listed-nowhere : (number : ℕ) (losses : List ℕ) → ((i : ℕ) → i < length losses → get_or losses i 0 ≢ number) → is_listed number losses ≡ false
 is_listed-nowhere number [] nowhere = refl
 is_listed-nowhere number (other ∷ rest) nowhere =
-    neither (eqb other number) (is_listed number rest) (not_equal other number (nowhere 0 (omega arith)))
+    or_from (eqb other number) (is_listed number rest) (ne_eqb other number (nowhere 0 (omega arith)))
     (is_listed-nowhere number rest (λ i within. nowhere (suc i) (omega arith)))
 
 -- numbers that rise strictly don't fall
@@ -45,9 +34,6 @@ rises_along numbers rises i (suc j) order within =
           omega (arith, rises_along numbers rises i j before (omega arith)))
     ]
 
-equal : (a b : ℕ) → a ≡ b → eqb a b ≡ true
-equal a b same = grind (arith, nat_tests)
-
 -- none is listed if all are below the number
 pub is_listed-past : (number : ℕ) (losses : List ℕ) (place : ℕ) → length losses ≤ place → ((i : ℕ) → i < place → get_or losses i 0 < number) → is_listed number losses ≡ false
 is_listed-past number losses place past before =
@@ -64,10 +50,10 @@ is_listed-here number losses place rises within before from =
           is_listed-nowhere number losses (λ i inside same.
           elim (cases_lt i place) as (λ _. ⊥)
           [ inl below ↦ (let h = before i below in omega arith) | inr not_below ↦ (let h = rises_along losses rises place i not_below inside in omega arith) ]) in
-          not_equal (get_or losses place 0) number other ∙ sym nowhere)
+          ne_eqb (get_or losses place 0) number other ∙ sym nowhere)
       | inr not_above ↦
           (let same : get_or losses place 0 ≡ number = omega arith in
-          equal (get_or losses place 0) number same ∙ sym (is_listed-at number losses place within same))
+          eq-eqb (get_or losses place 0) number same ∙ sym (is_listed-at number losses place within same))
     ]
 
 -- a number below that of the next loss listed
@@ -78,6 +64,6 @@ is_listed-before number losses place last rises before under =
       | inl within ↦
           (let same : get_or losses place last ≡ get_or losses place 0 = get_or_default losses place last 0 within in
           let other : get_or losses place 0 ≢ number = λ is. omega arith in
-          sym (not_equal (get_or losses place 0) number other) ∙ is_listed-here number losses place rises within before (omega arith))
+          sym (ne_eqb (get_or losses place 0) number other) ∙ is_listed-here number losses place rises within before (omega arith))
       | inr past ↦ sym (is_listed-past number losses place past before)
     ]

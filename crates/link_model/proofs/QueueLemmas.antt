@@ -1,12 +1,12 @@
 -- The packets that wait have the chances from the first one after now on, up to the last one that was given.
 use Rattle.std.proofs.Common.{◌≡◌, ℕ, ◌+◌, ◌-◌, ◌<◌, ◌≤◌, Bool, true, false, cond, ltb, leb, ltb-true, ◌||◌, List, ◌∷◌, length, max, refl, ap, sym, ◌∙◌, arith, inl, inr, ◌⊎◌}
-use Rattle.std.proofs.lemmas.Bool.{cases_lt}
+use Rattle.std.proofs.lemmas.Bool.{cases_lt, ltb-false}
 use Rattle.link_model.specs.declared.link_case.LinkCase.{LinkCase}
 use Rattle.link_model.specs.Traces.{IsTrace}
 use Rattle.link_model.specs.Chances.{chance_time, first_chance}
 use Rattle.link_model.specs.Link.{Packet, Lost, Served, waiting, chances_past, is_listed, is_marked, packet_after}
 use Rattle.link_model.specs.Flights.{IsQueued}
-use Rattle.link_model.proofs.ChanceLemmas.{not_below, first_chance_le, le_first_chance, first_chance_max}
+use Rattle.link_model.proofs.ChanceLemmas.{first_chance_le, le_first_chance, first_chance_max}
 
 pub IsQueued-later : (times : List ℕ) (now then_ : ℕ) (packets : List Packet) → now ≤ then_ → IsQueued times now packets → IsQueued times then_ packets
 IsQueued-later times now then_ packets order queued at after = queued at (omega arith)
@@ -29,7 +29,7 @@ module _ (times : List ℕ) (trace : IsTrace times) where
       let passed : own < first_chance times (at + 1) 0 =
       elim (cases_lt own (first_chance times (at + 1) 0)) as (λ _. own < first_chance times (at + 1) 0) [
         | inl below ↦ below
-        | inr not_under ↦ absurd (let late = le_first_chance times trace (at + 1) own not_under in let early : chance_time times own ≤ at = not_below at (chance_time times own) is in omega arith)
+        | inr not_under ↦ absurd (let late = le_first_chance times trace (at + 1) own not_under in let early : chance_time times own ≤ at = ltb-false at (chance_time times own) is in omega arith)
       ] in
       omega arith
 

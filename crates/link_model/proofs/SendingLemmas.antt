@@ -1,7 +1,6 @@
 -- The sending of a call, packet by packet, against the steps of what a link keeps.
 use Rattle.std.proofs.Common.{◌≡◌, ℕ, zero, suc, ◌+◌, ◌-◌, ◌<◌, ◌≤◌, Bool, true, false, cond, leb, ◌||◌, Option, Some, None, List, [], ◌∷◌, ◌++◌, max, refl, ap, sym, ◌∙◌, arith, inl, inr}
-use Rattle.std.proofs.lemmas.Bool.{cases_lt}
-use Rattle.std.proofs.lemmas.Bool.Decides.{nat_tests}
+use Rattle.std.proofs.lemmas.Bool.{cases_lt, or_from, or_right, le-leb, lt-leb}
 use Rattle.link_model.specs.declared.link_case.LinkCase.{LinkCase}
 use Rattle.link_model.specs.declared.arrival.Arrival.{Arrival}
 use Rattle.link_model.specs.declared.chance.Coming.{Coming}
@@ -55,20 +54,6 @@ no_more times trace now chance early = omega (arith, up_to_now times trace now (
 
 -- ---- packets that are lost
 
-full : (a b : ℕ) → a ≤ b → leb a b ≡ true
-full a b order = grind (arith, nat_tests)
-
-not_full : (a b : ℕ) → b < a → leb a b ≡ false
-not_full a b order = grind (arith, nat_tests)
-
-or_last : (a b : Bool) → b ≡ true → a || b ≡ true
-or_last true b is = refl
-or_last false b is = is
-
-neither : (a b : Bool) → a ≡ false → b ≡ false → a || b ≡ false
-neither true b not_a not_b = not_a
-neither false b not_a not_b = not_b
-
 abbrev with_counts : Standing → ℕ → ℕ → Standing
 with_counts standing lost sent = record {
   time = standing.time;
@@ -88,7 +73,7 @@ module _ (case : LinkCase) where
   packet-full : (standing : Standing) → case.queue ≤ waiting_now case standing → with_packet case standing ≡ with_lost 1 standing
   packet-full standing is =
       ap (λ b. with_fate case (cond b Lost (Served (chance_now case standing) (is_marked case.mark (waiting_now case standing)))) standing)
-      (or_last (is_listed standing.sent case.losses) (leb case.queue (waiting_now case standing)) (full case.queue (waiting_now case standing) is))
+      (or_right (is_listed standing.sent case.losses) (leb case.queue (waiting_now case standing)) (le-leb case.queue (waiting_now case standing) is))
 
   -- if the queue is full, all are lost
   pub sending-full : (more : ℕ) (standing : Standing) → case.queue ≤ waiting_now case standing → sending case more standing ≡ with_lost more standing
@@ -102,7 +87,7 @@ module _ (case : LinkCase) where
       → with_packet case standing ≡ with_served case (chance_now case standing) (is_marked case.mark (waiting_now case standing)) standing
   packet-served standing other is =
       ap (λ b. with_fate case (cond b Lost (Served (chance_now case standing) (is_marked case.mark (waiting_now case standing)))) standing)
-      (neither (is_listed standing.sent case.losses) (leb case.queue (waiting_now case standing)) other (not_full case.queue (waiting_now case standing) is))
+      (or_from (is_listed standing.sent case.losses) (leb case.queue (waiting_now case standing)) other (lt-leb case.queue (waiting_now case standing) is))
 
   -- one is lost, since it is listed
   pub sending-lost : (left : ℕ) (standing : Standing) → 0 < left → is_listed standing.sent case.losses ≡ true → sending case (left - 1) (with_lost 1 standing) ≡ sending case left standing
@@ -156,4 +141,4 @@ least_noticed-queue queue (Some mark) = omega arith
 -- if fewer packets wait, the next one isn't marked
 pub least_noticed-mark : (queue waiting : ℕ) (mark : Option ℕ) → waiting < least_noticed queue mark → false ≡ is_marked mark waiting
 least_noticed-mark queue waiting None few = refl
-least_noticed-mark queue waiting (Some mark) few = sym (not_full mark waiting (omega arith))
+least_noticed-mark queue waiting (Some mark) few = sym (lt-leb mark waiting (omega arith))

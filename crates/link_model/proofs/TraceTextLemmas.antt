@@ -1,6 +1,7 @@
 -- The blanks at the end of a line, and a text that is read line by line.
 use Rattle.std.proofs.Common.{◌≡◌, ◌≢◌, ℕ, zero, suc, ◌+◌, ◌-◌, ◌<◌, Bool, true, false, cond, nat_eq, List, [], ◌∷◌, ◌++◌, length, get_or, Option, Some, None, Result, Ok, Err, refl, ap, sym, ◌∙◌, arith}
 use Rattle.std.proofs.lemmas.Bool.Decides.{nat_tests}
+use Rattle.std.proofs.lemmas.List.{get_or_default}
 use Rattle.std.specs.Option.{option_or}
 use Rattle.ccp_base.specs.Parts.{separates}
 use Rattle.ccp_base.specs.declared.outside.NoMemory.{NoMemory}
@@ -36,18 +37,13 @@ abbrev pub last_after : ℕ → List (List ℕ) → ℕ
 last_after before [] = before
 last_after before (line ∷ rest) = last_after (time_after (trace_line line) before) rest
 
-get_or-within : (xs : List ℕ) (i d e : ℕ) → i < length xs → get_or xs i d ≡ get_or xs i e
-get_or-within [] i d e within = absurd (omega arith)
-get_or-within (x ∷ xs) zero d e within = refl
-get_or-within (x ∷ xs) (suc i) d e within = get_or-within xs i d e (omega arith)
-
 last_in_front : (time : ℕ) (later : List ℕ) (before : ℕ) → get_or later (length later - 1) time ≡ get_or (time ∷ later) (length (time ∷ later) - 1) before
 last_in_front time [] before = refl
 last_in_front time (next ∷ later) before =
     let here : length (next ∷ later) - 1 ≡ length later = omega arith in
     let there : length (time ∷ next ∷ later) - 1 ≡ suc (length later) = omega arith in
     ap (λ i. get_or (next ∷ later) i time) here
-    ∙ get_or-within (next ∷ later) (length later) time before (omega arith)
+    ∙ get_or_default (next ∷ later) (length later) time before (omega arith)
     ∙ sym (ap (λ i. get_or (time ∷ next ∷ later) i before) there)
 
 last_with : (said : TraceLine) (before : ℕ) (rest : List (List ℕ)) → ((from : ℕ) → last_after from rest ≡ get_or (times_of rest) (length (times_of rest) - 1) from)

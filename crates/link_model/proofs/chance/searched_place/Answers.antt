@@ -1,6 +1,5 @@
-use Rattle.std.proofs.Common.{ltb, ltb-true, arith, rules}
+use Rattle.std.proofs.Common.{ltb, ltb-true, ltb-false, arith, rules}
 use Rattle.std.proofs.lemmas.List.Sorted.{IsPartitionPoint-from_clause, IsPartitionedBy-ltb}
-use Rattle.link_model.proofs.ChanceLemmas.{not_below}
 use Rattle.link_model.proofs.chance.searched_place.Goals as goal
 
 pub returns-clause-before : goal.returns-clause-before
@@ -11,6 +10,6 @@ returns-clause-before c =
 
 pub returns-clause-from : goal.returns-clause-from
 returns-clause-from c =
-    λ within. not_below _ _
+    λ within. ltb-false _ _
     ((IsPartitionPoint-from_clause (λ time. ltb time c.args.millis) _ _ c.partition_point.ensures.partitioned
     (IsPartitionedBy-ltb (λ time. time) _ c.args.millis c.requires.rising) (λ a r q k. search rules)).1 _ 0 (omega arith) within)
