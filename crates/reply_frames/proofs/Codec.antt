@@ -1,17 +1,16 @@
 -- A part of a frame is read from what it is written as, and from nothing else. The two directions of a part, and of
 -- what is made of parts.
-use Rattle.std.proofs.Common.{◌≡◌, ℕ, zero, suc, ◌+◌, ◌-◌, ◌*◌, ◌/◌, ◌%◌, ◌^◌, ◌≤◌, ◌<◌, Bool, true, false, leb, ltb, List, [], ◌∷◌, ◌++◌, length, get_or, take, drop, Ok, refl, sym, ap, subst, ◌∙◌, append_assoc, arith, inl, inr}
+use Rattle.std.proofs.Common.{◌≡◌, ℕ, zero, suc, ◌+◌, ◌-◌, ◌*◌, ◌/◌, ◌%◌, ◌^◌, ◌≤◌, ◌<◌, leb, ltb, List, [], ◌∷◌, ◌++◌, length, get_or, take, drop, Ok, refl, sym, ap, subst, ◌∙◌, append_assoc, arith, inl, inr}
 use Rattle.std.specs.List.{flat_map, AllByRecursion}
 use Rattle.std.specs.Int.{w16, w32, w64, to_le_bytes, from_le_bytes}
-use Rattle.std.specs.Prelude.{◌&&◌}
-use Rattle.std.proofs.lemmas.Bool.{cases_lt, ltb-false, leb-true, le-leb}
+use Rattle.std.proofs.lemmas.Bool.{cases_lt, ltb-false, leb-true, le-leb, and_parts, and_from}
 use Rattle.std.proofs.lemmas.List.{take-append-drop, length-take, get_or-drop, get_or-take, get_or_past}
 use Rattle.std.proofs.lemmas.List.Concat.{flat_map-cons}
 use Rattle.std.proofs.lemmas.Nat.{le_bytes_2, le_bytes_4, le_bytes_8, from_le_bytes-to_le_bytes_2, from_le_bytes-to_le_bytes_4, from_le_bytes-to_le_bytes_8}
 use Rattle.reply_frames.specs.declared.fault.BadKind.{BadKind}
 use Rattle.reply_frames.specs.declared.fault.Stop.TheVariants as stops
 use Rattle.reply_frames.specs.Parts.{Read, ◌>>=◌, byte_at, number_at, limited_at, exactly_at, repeated_at}
-use Rattle.reply_frames.proofs.ExactParts.{within, and-true, byte-within, byte-ok, bind_ok, front-ok, front-there}
+use Rattle.reply_frames.proofs.ExactParts.{within, byte-within, byte-ok, bind_ok, front-ok, front-there}
 
 -- each of these is a byte
 abbrev pub AllBytes : List ℕ → Type 0
@@ -38,10 +37,6 @@ pub record IsSpelled (bytes text rest : List ℕ) : Type 0 where
 pub spelled-then : (a x b y c : List ℕ) → IsSpelled a x b → IsSpelled b y c → IsSpelled a (x ++ y) c
 spelled-then a x b y c p q = record { parts = p.parts ∙ ap (λ xs. x ++ xs) q.parts ∙ sym (append_assoc x y c); rest_fits = q.rest_fits }
 
-and-parts : (a b : Bool) → (a && b) ≡ true → (a ≡ true) × (b ≡ true)
-and-parts true b e = (refl, e)
-and-parts false b e = absurd cc
-
 abbrev pub pair : {A : Type 0} → A → List ℕ → A × List ℕ
 pair x rest = (x, rest)
 
@@ -49,13 +44,13 @@ pub ok-pair : {A : Type 0} (x y : A × List ℕ) → ◌≡◌ {A = Read A} (Ok 
 ok-pair x y e = cc
 
 pub byte-again : (field : BadKind) (least most byte : ℕ) (rest : List ℕ) → least ≤ byte → byte ≤ most → byte_at field least most (byte ∷ rest) ≡ Ok (byte, rest)
-byte-again field least most byte rest low high = byte-within field least most byte rest (and-true (leb least byte) (leb byte most) (le-leb least byte low) (le-leb byte most high))
+byte-again field least most byte rest low high = byte-within field least most byte rest (and_from (leb least byte) (leb byte most) (le-leb least byte low) (le-leb byte most high))
 
 pub byte-is : (field : BadKind) (least most : ℕ) (bytes : List ℕ) (x : ℕ × List ℕ) → AllBytes bytes → byte_at field least most bytes ≡ Ok x → IsSpelled bytes (x.0 ∷ []) x.1 × (least ≤ x.0) × (x.0 ≤ most)
 byte-is field least most [] x fits e = absurd cc
 byte-is field least most (byte ∷ bytes) x fits e =
     let b = byte-ok field (within least most byte) byte bytes x.0 x.1 (stops.Bad field (length (byte ∷ bytes))) e in
-    let bounds = and-parts (leb least byte) (leb byte most) b.0 in
+    let bounds = and_parts (leb least byte) (leb byte most) b.0 in
     let low : least ≤ byte = leb-true least byte bounds.0 in
     let high : byte ≤ most = leb-true byte most bounds.1 in
     (record { parts = ap (λ v. v ∷ bytes) b.1 ∙ ap (λ xs. x.0 ∷ xs) b.2; rest_fits = rw (← b.2) (AllBytes-rest byte bytes fits) }, omega (arith, b.1), omega (arith, b.1))

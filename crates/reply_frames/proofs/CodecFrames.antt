@@ -219,9 +219,6 @@ register-reads = read-by register_at register_bytes IsRegister
 writes-as : {A : Type 0} (part : List ℕ → Read A) (x : A) (text text' : List ℕ) → text ≡ text' → Writes part x text → Writes part x text'
 writes-as part x text text' e w = subst (λ text. Writes part x text) e w
 
-group3 : (a b c : List ℕ) → a ++ (b ++ c) ≡ a ++ b ++ c
-group3 a b c = sym (append_assoc a b c)
-
 group5 : (a b c d e : List ℕ) → a ++ (b ++ (c ++ (d ++ e))) ≡ a ++ b ++ c ++ d ++ e
 group5 a b c d e = sym (simp append_assoc)
 
@@ -232,7 +229,7 @@ group8 : (a b c d e f g h : List ℕ) → a ++ (b ++ (c ++ (d ++ (e ++ (f ++ (g 
 group8 a b c d e f g h = sym (simp append_assoc)
 
 instruction-group : (i : Instruction) → i.op ∷ register_bytes i.to ++ (register_bytes i.left ++ register_bytes i.right) ≡ instruction_bytes i
-instruction-group i = ap (λ xs. i.op ∷ xs) (group3 (register_bytes i.to) (register_bytes i.left) (register_bytes i.right))
+instruction-group i = ap (λ xs. i.op ∷ xs) (sym (append_assoc (register_bytes i.to) (register_bytes i.left) (register_bytes i.right)))
 
 instruction-writes : (i : Instruction) → IsInstruction i → Writes instruction_at i (instruction_bytes i)
 unfolding instruction_at

@@ -2,7 +2,7 @@
 use Rattle.std.proofs.Common.{◌≡◌, ℕ, zero, suc, ◌+◌, ◌-◌, ◌*◌, ◌/◌, ◌%◌, ◌≤◌, ◌<◌, Bool, true, false, cond, ltb, leb, List, [], ◌∷◌, ◌++◌, length, take, drop, replicate, Result, Ok, Err, refl, sym, ap, ◌∙◌, append_assoc, arith, length-append, ◌⊎◌, inl, inr}
 use Rattle.std.specs.Prelude.{◌&&◌}
 use Rattle.std.specs.Int.{Width, byte_len, from_le_bytes}
-use Rattle.std.proofs.lemmas.Bool.{ltb-true, ltb-false, le-ltb, le-leb}
+use Rattle.std.proofs.lemmas.Bool.{ltb-true, ltb-false, le-ltb, le-leb, and_from}
 use Rattle.std.proofs.lemmas.List.{append-nil, take-append-drop, length-take-le, take_at, drop_at, length-replicate}
 use Rattle.reply_frames.specs.declared.fault.BadKind.{BadKind}
 use Rattle.reply_frames.specs.declared.fault.Stop.{Stop}
@@ -153,9 +153,6 @@ byte-within field least most byte bytes e = ap (λ b. cond b (Ok (byte, bytes)) 
 byte-outside : (field : BadKind) (least most byte : ℕ) (bytes : List ℕ) → within least most byte ≡ false → byte_at field least most (byte ∷ bytes) ≡ Err (Bad field (length (byte ∷ bytes)))
 byte-outside field least most byte bytes e = ap (λ b. cond b (Ok (byte, bytes)) (Err (Bad field (length (byte ∷ bytes))))) e
 
-pub and-true : (a b : Bool) → a ≡ true → b ≡ true → (a && b) ≡ true
-and-true a b p q = ap (λ x. x && b) p ∙ q
-
 byte-taken : (field : BadKind) (least most : ℕ) (bytes : List ℕ) (value : ℕ) (rest : List ℕ) → byte_at field least most bytes ≡ Ok (value, rest) → Takes (byte_at field least most) bytes value rest
 byte-taken field least most [] value rest e = absurd cc
 byte-taken field least most (byte ∷ bytes) value rest e =
@@ -171,7 +168,7 @@ byte-cut field least most some small [] e = record {
   more = least ∷ [];
   are_bytes = (small, tt);
   value = least;
-  whole = byte-within field least most least [] (and-true (leb least least) (leb least most) (le-leb least least (omega arith)) (le-leb least most some));
+  whole = byte-within field least most least [] (and_from (leb least least) (leb least most) (le-leb least least (omega arith)) (le-leb least most some));
 }
 byte-cut field least most some small (byte ∷ bytes) e =
     let b = byte-err (within least most byte) byte bytes (Bad field (length (byte ∷ bytes))) Cut e in

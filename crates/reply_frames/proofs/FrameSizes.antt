@@ -21,6 +21,7 @@ use Rattle.reply_frames.specs.FrameBytes.{counts_bytes, outline_bytes, start_byt
 use Rattle.reply_frames.proofs.ExactParts.{AreBytes-append}
 use Rattle.reply_frames.proofs.Codec.{low_digits, le_bytes-digits}
 use Rattle.reply_frames.proofs.CodecFrames.{le_bytes-digits8, number-of, version-in}
+use Rattle.reply_frames.proofs.Placing.{length-value_bytes}
 
 -- ---- frames are bytes
 
@@ -150,11 +151,6 @@ long-all : {A : Type 0} (text : A → List ℕ) (size : ℕ) → ((x : A) → le
 long-all text size one [] = record { long = omega arith }
 long-all text size one (x ∷ xs) = record { long = ap length (flat_map-cons text x xs) ∙ omega (arith, length-append (text x) (flat_map text xs), one x, (long-all text size one xs).long, mul-suc size (length xs)) }
 
-long-value : (value : Pair) → length (value_bytes value) ≡ 10
-long-value (Control number, n) = refl
-long-value (Cwnd, n) = refl
-long-value (Rate, n) = refl
-
 -- an Ack has fourteen numbers
 abbrev pub HasPrimitives : Body → Type 0
 HasPrimitives (Ack primitives was_timeout) = length primitives ≡ flag_number
@@ -168,8 +164,8 @@ long-body version (Measure program epoch first last now cwnd rate fields) =
 long-body version (Install program reports controls events instructions) =
     long-then _ (flat_map instruction_bytes instructions) _ _ (long-then _ (flat_map event_bytes events) _ _ (long-then _ (flat_map start_bytes controls) _ _ (long-then (to_le_bytes w32 program) (flat_map start_bytes reports) 4 _
     (record { long = refl }) (long-all start_bytes 9 (λ start. refl) reports)) (long-all start_bytes 9 (λ start. refl) controls)) (long-all event_bytes 4 (λ event. refl) events)) (long-all instruction_bytes 28 (λ i. refl) instructions)
-long-body version (Update values) = long-all value_bytes 10 long-value values
-long-body version (Change program values) = long-then (to_le_bytes w32 program) (values_bytes values) 4 _ (record { long = refl }) (long-all value_bytes 10 long-value values)
+long-body version (Update values) = long-all value_bytes 10 length-value_bytes values
+long-body version (Change program values) = long-then (to_le_bytes w32 program) (values_bytes values) 4 _ (record { long = refl }) (long-all value_bytes 10 length-value_bytes values)
 long-body version (Fault program epoch place kind index now cwnd) =
     long-then _ (to_le_bytes w64 cwnd) _ 8 (long-then _ (to_le_bytes w64 now) _ 8 (long-then _ (kind ∷ to_le_bytes w16 index) _ 3 (long-then (to_le_bytes w32 program ++ to_le_bytes w32 epoch) (count_bytes version place) 8 _ (record { long = refl }) (long-count version place))
     (record { long = refl })) (record { long = refl })) (record { long = refl })

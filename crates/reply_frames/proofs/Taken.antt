@@ -1,16 +1,11 @@
 -- What holds of each item that a loop has passed holds of all items in the end.
-use Rattle.std.proofs.Common.{ℕ, zero, suc, ◌+◌, ◌≤◌, ◌<◌, List, [], ◌∷◌, ◌++◌, length, take, get_or, sym, subst, arith}
+use Rattle.std.proofs.Common.{ℕ, ◌+◌, ◌≤◌, ◌<◌, List, length, take, get_or, subst}
 use Rattle.std.specs.List.{AllByRecursion}
-use Rattle.std.proofs.lemmas.List.{take_more}
-
-all-append : {A : Type 0} (P : A → Type 0) (xs : List A) (y : A) → AllByRecursion P xs → P y → AllByRecursion P (xs ++ y ∷ [])
-all-append P [] y all one = (one, tt)
-all-append P (x ∷ xs) y all one = (all.0, all-append P xs y all.1 one)
+use Rattle.std.proofs.lemmas.List.{take_all}
+use Rattle.std.proofs.lemmas.List.Elements.{All-more, All-from_recursion, recursion_from_All}
 
 pub all-more : {A : Type 0} (P : A → Type 0) (xs : List A) (i : ℕ) (other : A) → i < length xs → AllByRecursion P (take i xs) → P (get_or xs i other) → AllByRecursion P (take (i + 1) xs)
-all-more P xs i other lt all one = subst (AllByRecursion P) (sym (take_more xs i other lt)) (all-append P (take i xs) (get_or xs i other) all one)
+all-more P xs i other lt all one = recursion_from_All P (take (i + 1) xs) (All-more P xs i other lt (All-from_recursion P (take i xs) all) one)
 
 pub all-taken : {A : Type 0} (P : A → Type 0) (xs : List A) (i : ℕ) → length xs ≤ i → AllByRecursion P (take i xs) → AllByRecursion P xs
-all-taken P [] i le all = tt
-all-taken P (x ∷ xs) zero le all = absurd (omega arith)
-all-taken P (x ∷ xs) (suc i) le all = (all.0, all-taken P xs i (omega arith) all.1)
+all-taken P xs i le all = subst (AllByRecursion P) (take_all i xs le) all
