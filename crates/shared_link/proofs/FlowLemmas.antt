@@ -1,6 +1,6 @@
 -- One flow of a shared link over what it sends and what is acknowledged: what holds of its packets in flight.
 use Rattle.std.proofs.Common.{◌≡◌, ℕ, suc, ◌+◌, ◌<◌, ◌≤◌, Bool, true, false, cond, ltb, List, [], ◌∷◌, ◌++◌, length, max, refl, ap, sym, ◌∙◌, subst, arith, length-append}
-use Rattle.std.proofs.lemmas.Bool.Decides.{nat_tests}
+use Rattle.std.proofs.lemmas.Bool.{le-ltb, ltb-false}
 use Rattle.link_model.specs.Traces.{IsTrace}
 use Rattle.link_model.specs.Chances.{chance_time}
 use Rattle.link_model.specs.Link.{Packet, Fate, Lost, Served, GivenAck, Numbered, packet_and_lost_below, all_below, chance_past, left_by, lost_by, in_flight, time_of, acked_of, Next, arrives, all_lost, next_arrival}
@@ -64,16 +64,10 @@ module _ (times : List ℕ) (trace : IsTrace times) (delay : ℕ) where
       lands_by past from lost packet.sent_at packet.fate rest (landing rest (lost + 1)) before.0 before.1 within.0 (λ after. lands_from past from (lost + 1) rest after within.1)
 
   -- if the first one arrives too late, all do
-  late : (a end : ℕ) → end ≤ a → ltb a end ≡ false
-  late a end order = grind (arith, nat_tests)
-
-  not_late : (a end : ℕ) → ltb a end ≡ false → end ≤ a
-  not_late a end is = grind (arith, nat_tests)
-
   none_by : (end from number sent_at : ℕ) (fate : Fate) (later : Next) → end ≤ from → ArrivesFrom times delay from fate → later ≡ all_lost → next_where times delay end number sent_at fate later ≡ all_lost
   none_by end from number sent_at Lost later order before none = none
   none_by end from number sent_at (Served own marked) later order before none =
-      ap (λ b. cond b (arrives number sent_at own marked) later) (late (chance_time times own + delay) end (omega (arith, before))) ∙ none
+      ap (λ b. cond b (arrives number sent_at own marked) later) (le-ltb (chance_time times own + delay) end (omega (arith, before))) ∙ none
 
   after_from : (from : ℕ) (fate : Fate) → ArrivesFrom times delay from fate → from ≤ after_arrival times delay from fate
   after_from from Lost before = omega arith
@@ -88,7 +82,7 @@ module _ (times : List ℕ) (trace : IsTrace times) (delay : ℕ) where
   earlier_by : (b : Bool) (end own : ℕ) (number sent_at : ℕ) (marked : Bool) (later : Next) → ltb (chance_time times own + delay) end ≡ b → (end ≤ chance_time times own + delay → later ≡ all_lost)
       → cond b (arrives number sent_at own marked) later ≡ cond b (arrives number sent_at own marked) all_lost
   earlier_by true end own number sent_at marked later is none = refl
-  earlier_by false end own number sent_at marked later is none = none (not_late (chance_time times own + delay) end is)
+  earlier_by false end own number sent_at marked later is none = none (ltb-false (chance_time times own + delay) end is)
 
   next_where_of : (end from number sent_at : ℕ) (fate : Fate) (later later_next : Next) → later ≡ earlier times delay end later_next → (end ≤ after_arrival times delay from fate → later ≡ all_lost)
       → next_where times delay end number sent_at fate later ≡ earlier times delay end (link.next_by number sent_at fate later_next)

@@ -1,7 +1,6 @@
 -- The flows of a shared link, of which one after the other is changed.
-use Rattle.std.proofs.Common.{◌≡◌, ◌≢◌, ℕ, zero, suc, ◌+◌, ◌-◌, ◌<◌, ◌≤◌, true, false, cond, eqb, max, List, [], ◌∷◌, ◌++◌, length, get_or, set, ap, sym, ◌∙◌, subst, arith, inl, inr, get_or-set_other, get_or-set_same}
-use Rattle.std.proofs.lemmas.Bool.{cases_lt}
-use Rattle.std.proofs.lemmas.Bool.Decides.{nat_tests}
+use Rattle.std.proofs.Common.{◌≡◌, ◌≢◌, ℕ, zero, suc, ◌+◌, ◌-◌, ◌<◌, ◌≤◌, cond, max, List, [], ◌∷◌, ◌++◌, length, get_or, set, ap, sym, ◌∙◌, subst, arith, inl, inr, get_or-set_other, get_or-set_same, refl}
+use Rattle.std.proofs.lemmas.Bool.{cases_lt, eq-eqb, ne_eqb}
 use Rattle.std.proofs.lemmas.List.{length-set, get_or_append_left}
 use Rattle.std.proofs.Math.Seq.{get_or-append_seam}
 use Rattle.ccp_base.specs.declared.ack.Ack.{Ack}
@@ -71,12 +70,6 @@ prepared-set case now asks bound more flows at traffic within most prepared befo
 
 -- ---- one more packet
 
-apart_is : (a b : ℕ) → b ≢ a → eqb a b ≡ false
-apart_is a b apart = grind (arith, nat_tests)
-
-same_is : (a : ℕ) → eqb a a ≡ true
-same_is a = grind (arith, nat_tests)
-
 module _ (case : SharedCase) (trace : IsTrace case.trace) (flows : List FlowTraffic) (sending : Sending) (sent : List Sent) (givens : ℕ → List GivenAck) (follows : Follows case flows sending sent givens)
     (is : IsSending case.trace sending) (at : ℕ) (within : at < length flows) (old : FlowTraffic) (old_is : old ≡ get_or flows at old) where
   stands : flow_under_way old ≡ flow_standing case.trace (flow_link_at case at) (own_packets at sent) (givens at)
@@ -104,7 +97,7 @@ module _ (case : SharedCase) (trace : IsTrace case.trace) (flows : List FlowTraf
       → flow_under_way (get_or flows flow other) ≡ flow_standing case.trace (flow_link_at case flow) (own_packets flow (with_packet case sending.now at sent)) (givens flow)
   others_follow flow other inside apart =
       follows.traffic flow other inside
-      ∙ ap (λ b. flow_standing case.trace (flow_link_at case flow) (cond b (packet_after case sending.now at sent ∷ own_packets flow sent) (own_packets flow sent)) (givens flow)) (sym (apart_is at flow apart))
+      ∙ ap (λ b. flow_standing case.trace (flow_link_at case flow) (cond b (packet_after case sending.now at sent ∷ own_packets flow sent) (own_packets flow sent)) (givens flow)) (sym (ne_eqb at flow (λ same. apart (sym same))))
 
   own_follows : (new : FlowTraffic) → flow_under_way new ≡ with_one case.trace (flow_link_at case at).delay_us sending.now (fate_now case.trace (flow_link_at case at) case.queue old.sent sending) (flow_under_way old)
       → flow_under_way new ≡ flow_standing case.trace (flow_link_at case at) (own_packets at (with_packet case sending.now at sent)) (givens at)
@@ -114,7 +107,7 @@ module _ (case : SharedCase) (trace : IsTrace case.trace) (flows : List FlowTraf
       ∙ ap (λ f. with_one case.trace link.delay_us sending.now f (flow_under_way old)) fate_same
       ∙ ap (with_one case.trace link.delay_us sending.now (packet_after case sending.now at sent).fate) stands
       ∙ sym (kept-sent case.trace trace link (chances_past (every_packet sent)) (own_packets at sent) (givens at) (follows.settled.flows at) (packet_after case sending.now at sent))
-      ∙ ap (λ b. flow_standing case.trace link (cond b (packet_after case sending.now at sent ∷ own_packets at sent) (own_packets at sent)) (givens at)) (sym (same_is at))
+      ∙ ap (λ b. flow_standing case.trace link (cond b (packet_after case sending.now at sent ∷ own_packets at sent) (own_packets at sent)) (givens at)) (sym (eq-eqb at at refl))
 
   pub follows-sent : (new : FlowTraffic) (after : Sending) → after.now ≡ sending.now
       → flow_under_way new ≡ with_one case.trace (flow_link_at case at).delay_us sending.now (fate_now case.trace (flow_link_at case at) case.queue old.sent sending) (flow_under_way old)

@@ -1,6 +1,6 @@
 -- What is kept of a flow goes on as the definition does.
-use Rattle.std.proofs.Common.{◌≡◌, ℕ, zero, suc, ◌+◌, ◌<◌, Bool, true, false, cond, ltb, eqb, ◌&&◌, List, [], ◌∷◌, ◌++◌, length, drop, slice_get, max, refl, ap, sym, ◌∙◌, subst, arith, add_comm, append_assoc}
-use Rattle.std.proofs.lemmas.Bool.Decides.{nat_tests}
+use Rattle.std.proofs.Common.{◌≡◌, ℕ, zero, suc, ◌+◌, ◌<◌, Bool, true, false, cond, ltb, eqb, ◌&&◌, List, [], ◌∷◌, ◌++◌, length, drop, slice_get, max, refl, ap, sym, ◌∙◌, subst, arith, add_comm, append_assoc, append-nil}
+use Rattle.std.proofs.lemmas.Bool.{ne_eqb, lt-ltb}
 use Rattle.ccp_base.specs.declared.ack.Ack.{Ack}
 use Rattle.link_model.specs.declared.arrival.Arrival.{Arrival}
 use Rattle.link_model.specs.Traces.{IsTrace}
@@ -68,11 +68,8 @@ module _ (times : List ℕ) (delay : ℕ) where
       × ((with_packets times delay packets (lost_so_far n since)).lost ≡ lost)
       × (0 < n → (with_packets times delay packets (lost_so_far n since)).since ≡ since)
 
-  not_none : (n : ℕ) → 0 < n → eqb n 0 ≡ false
-  not_none n some = grind (arith, nat_tests)
-
   later_since : (n sent_at since : ℕ) → 0 < n → cond (eqb n 0) sent_at since ≡ since
-  later_since n sent_at since some = ap (λ b. cond b sent_at since) (not_none n some)
+  later_since n sent_at since some = ap (λ b. cond b sent_at since) (ne_eqb n 0 (λ none. omega (arith, some, none)))
 
   lands_after : (n since sent_at : ℕ) (rest : List Packet) (later : Landing) → LandsAs (n + 1) (cond (eqb n 0) sent_at since) rest later
       → LandsAs n since (record { sent_at = sent_at; fate = Lost } ∷ rest) later
@@ -145,10 +142,6 @@ are_lost_as (sent ∷ rest) = are_lost_by sent.number sent.packet.sent_at sent.p
 
 -- ---- acknowledgements
 
-append_none : (acks : List Ack) → acks ++ [] ≡ acks
-append_none [] = refl
-append_none (ack ∷ rest) = ap (λ xs. ack ∷ xs) (append_none rest)
-
 module _ (times : List ℕ) (trace : IsTrace times) (link : FlowLink) (end past : ℕ) (packets : List Packet) where
   abbrev pub state : List Ack → List GivenAck → AnsweredFlow
   state acks givens = record { acks = acks; standing = flow_standing times link packets givens }
@@ -210,15 +203,12 @@ module _ (times : List ℕ) (trace : IsTrace times) (link : FlowLink) (end past 
     come_to more = record { acks = acks ++ acks_of_givens more; standing = flow_standing times link packets (with_givens more givens) }
 
     nothing_more : state acks givens ≡ come_to []
-    nothing_more = ap (λ xs. record { acks = xs; standing = flow_standing times link packets givens }) (sym (append_none acks))
+    nothing_more = ap (λ xs. record { acks = xs; standing = flow_standing times link packets givens }) (sym (append-nil acks))
 
     timed_if : (b : Bool) (now lost : ℕ) → flight_kept.lost ≡ lost → lost ≡ length (in_flight packets givens)
         → cond b (with_timeout link now (state acks givens)) (state acks givens) ≡ come_to (cond b (timeout_given link packets givens (in_flight packets givens) now ∷ []) [])
     timed_if true now lost lost_is count = timeout now lost lost_is count
     timed_if false now lost lost_is count = nothing_more
-
-    above_none : (n : ℕ) → 0 < n → ltb 0 n ≡ true
-    above_none n some = grind (arith, nat_tests)
 
     kept-timeouts : (flight : List Numbered) → flight ≡ in_flight packets givens → landing (packets_of flight) 0 ≡ AllLost (0 + length flight) → are_lost flight ≡ true
         → timed_out link end (state acks givens) ≡ come_to (timeouts link end packets givens flight)
@@ -239,7 +229,7 @@ module _ (times : List ℕ) (trace : IsTrace times) (link : FlowLink) (end past 
         ap (λ xs. (with_packets times link.delay_us (packets_of xs) no_flight).since) (sym same)
         ∙ since_first times link.delay_us first.packet (packets_of rest) (0 + length (first ∷ rest)) lands_is in
         let now_is : timeout_now link (flow_standing times link packets givens) ≡ now = ap (λ n. max (time_of givens) n + link.timeout_us) since in
-        let some : ltb 0 flight_kept.lost ≡ true = above_none flight_kept.lost (omega (arith, kept_lost, ap length same)) in
+        let some : ltb 0 flight_kept.lost ≡ true = lt-ltb 0 flight_kept.lost (omega (arith, kept_lost, ap length same)) in
         ap (λ t. cond (ltb 0 flight_kept.lost && ltb t end) (with_timeout link t (state acks givens)) (state acks givens)) now_is
         ∙ ap (λ b. cond (b && ltb now end) (with_timeout link now (state acks givens)) (state acks givens)) some
         ∙ timed_if (ltb now end) now (length flight) kept_lost refl

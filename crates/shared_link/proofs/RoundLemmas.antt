@@ -1,5 +1,6 @@
 -- What holds of a shared link after every list of rounds.
 use Rattle.std.proofs.Common.{◌≡◌, ℕ, zero, suc, ◌+◌, ◌<◌, ◌≤◌, Bool, true, false, cond, eqb, ltb, leb, ◌||◌, ◌&&◌, List, [], ◌∷◌, length, refl, sym, subst, arith, ltb-true}
+use Rattle.std.proofs.lemmas.Bool.{and_parts}
 use Rattle.ccp_base.specs.Limits.{most_flight}
 use Rattle.link_model.specs.Traces.{IsTrace}
 use Rattle.link_model.specs.Chances.{chance_time, first_chance}
@@ -14,10 +15,6 @@ use Rattle.shared_link.specs.declared.round.Ask.{Ask}
 use Rattle.shared_link.specs.Reached.{FlowSettled, Settled}
 use Rattle.shared_link.specs.SharedRounds.{Sent, SharedLinkRun, flow_link_at, ask_at, every_packet, own_packets, allowed, with_packet, lacks, some_lacks, sending_turn, turns_of, round_time, sent_by, arrival_given, are_lost, timeout_at, timeout_given, timeouts, answers, answers_after, with_givens, with_round, shared_run_from, shared_run_of, first_run}
 use Rattle.shared_link.proofs.FlowLemmas.{earlier, next_before_of, flow_settled-first, flow_settled-more, flow_settled-sent, flow_settled-arrived, flow_settled-timed_out, matches}
-
-and_right : (a b : Bool) → a && b ≡ true → b ≡ true
-and_right true b is = is
-and_right false b is = absurd (let h : false ≡ true = is in cc)
 
 -- ---- a flow's acknowledgements in a round
 
@@ -36,7 +33,7 @@ module _ (times : List ℕ) (trace : IsTrace times) (link : FlowLink) (end past 
   settled-timeouts givens (first ∷ rest) same holds =
       let now = timeout_at link givens first.packet in
       timed_out_if (are_lost (first ∷ rest) && ltb now end) now givens (first ∷ rest) same (omega arith)
-      (λ is. (let before : now < end = ltb-true now end (and_right (are_lost (first ∷ rest)) (ltb now end) is) in omega (arith, before))) holds
+      (λ is. (let before : now < end = ltb-true now end (and_parts (are_lost (first ∷ rest)) (ltb now end) is).1 in omega (arith, before))) holds
 
   settled-if : (b : Bool) (givens : List GivenAck) (number sent_at chance : ℕ) (marked : Bool) (then_ : GivenAck → List GivenAck) → ltb (chance_time times chance + link.delay_us) end ≡ b → Holds givens
       → MatchNext (in_flight packets givens) 0 0 (arrives number sent_at chance marked) → number < length packets

@@ -1,7 +1,6 @@
 -- A round's sending ends only when no flow has fewer packets in flight than it may have.
 use Rattle.std.proofs.Common.{◌≡◌, ℕ, zero, suc, ◌+◌, ◌<◌, ◌≤◌, Bool, true, false, cond, eqb, ltb, ◌||◌, List, [], ◌∷◌, length, refl, ap, sym, ◌∙◌, subst, arith, inl, inr, length-append}
-use Rattle.std.proofs.lemmas.Bool.{cases_lt}
-use Rattle.std.proofs.lemmas.Bool.Decides.{nat_tests}
+use Rattle.std.proofs.lemmas.Bool.{cases_lt, or_parts, or_from, eq-eqb, le-ltb, ltb-false}
 use Rattle.ccp_base.specs.Limits.{most_flight}
 use Rattle.link_model.specs.Traces.{IsTrace}
 use Rattle.link_model.specs.Link.{Packet, GivenAck, Numbered, in_flight, allowance_of}
@@ -29,19 +28,6 @@ allowed_within case now asks flow =
 
 -- ---- one packet, a turn, and all turns
 
-same_is : (a : ℕ) → eqb a a ≡ true
-same_is a = grind (arith, nat_tests)
-
-enough_is : (count may : ℕ) → may ≤ count → ltb count may ≡ false
-enough_is count may enough = grind (arith, nat_tests)
-
-enough_of : (count may : ℕ) → ltb count may ≡ false → may ≤ count
-enough_of count may is = grind (arith, nat_tests)
-
-pub or_false : (a b : Bool) → a ≡ false → b ≡ false → a || b ≡ false
-or_false true b not_a not_b = not_a
-or_false false b not_a not_b = not_b
-
 module _ (case : SharedCase) (trace : IsTrace case.trace) (now : ℕ) (givens : ℕ → List GivenAck) (may : ℕ → ℕ) where
   -- how many packets of a flow are in flight
   abbrev count : ℕ → List Sent → ℕ
@@ -64,7 +50,7 @@ module _ (case : SharedCase) (trace : IsTrace case.trace) (now : ℕ) (givens : 
   -- a packet of a flow is one more of its own, and takes none of another flow away
   count_own : (flow : ℕ) (sent : List Sent) → Settled case now sent givens → count flow (with_packet case now flow sent) ≡ count flow sent + 1
   count_own flow sent settled =
-      ap (λ b. length (in_flight (cond b (packet_after case now flow sent ∷ own_packets flow sent) (own_packets flow sent)) (givens flow))) (same_is flow)
+      ap (λ b. length (in_flight (cond b (packet_after case now flow sent ∷ own_packets flow sent) (own_packets flow sent)) (givens flow))) (eq-eqb flow flow refl)
       ∙ own_one flow sent (packet_after case now flow sent) settled
 
   count_grows : (sender flow : ℕ) (sent : List Sent) → Settled case now sent givens → count flow sent ≤ count flow (with_packet case now sender sent)
@@ -85,7 +71,7 @@ module _ (case : SharedCase) (trace : IsTrace case.trace) (now : ℕ) (givens : 
   one_nearer : (b : Bool) (flow left : ℕ) (sent : List Sent) → Settled case now sent givens → lacks may givens flow sent ≡ b → may flow ≤ count flow sent + suc left
       → may flow ≤ count flow (cond b (with_packet case now flow sent) sent) + left
   one_nearer true flow left sent settled is near = omega (arith, near, count_own flow sent settled)
-  one_nearer false flow left sent settled is near = omega (arith, enough_of (count flow sent) (may flow) is)
+  one_nearer false flow left sent settled is near = omega (arith, ltb-false (count flow sent) (may flow) is)
 
   -- a turn leaves each flow that has fewer packets than it may have one nearer
   turn_nearer : (flows flow left : ℕ) (sent : List Sent) → Settled case now sent givens → flow < flows → may flow ≤ count flow sent + suc left
@@ -111,7 +97,7 @@ module _ (case : SharedCase) (trace : IsTrace case.trace) (now : ℕ) (givens : 
   none_lacks : (flows : ℕ) (sent : List Sent) → ((flow : ℕ) → flow < flows → may flow ≤ count flow sent) → some_lacks may givens flows sent ≡ false
   none_lacks zero sent enough = refl
   none_lacks (suc flow) sent enough =
-      or_false (lacks may givens flow sent) (some_lacks may givens flow sent) (enough_is (count flow sent) (may flow) (enough flow (omega arith)))
+      or_from (lacks may givens flow sent) (some_lacks may givens flow sent) (le-ltb (count flow sent) (may flow) (enough flow (omega arith)))
       (none_lacks flow sent (λ f under. enough f (omega (arith, under))))
 
   none_lacks_if : (b : Bool) (flows : ℕ) (more sent : List Sent) → some_lacks may givens flows sent ≡ b → some_lacks may givens flows more ≡ false
@@ -130,22 +116,15 @@ module _ (case : SharedCase) (trace : IsTrace case.trace) (now : ℕ) (givens : 
 
 -- ---- a turn in which no flow sends
 
-or_left : (a b : Bool) → a || b ≡ false → a ≡ false
-or_left true b none = none
-or_left false b none = refl
-
-or_right : (a b : Bool) → a || b ≡ false → b ≡ false
-or_right true b none = absurd (cc)
-or_right false b none = none
-
 module _ (case : SharedCase) (now : ℕ) (givens : ℕ → List GivenAck) (may : ℕ → ℕ) where
   none-turn : (flows : ℕ) (sent : List Sent) → some_lacks may givens flows sent ≡ false → sending_turn case now may givens flows sent ≡ sent
   none-turn zero sent none = refl
   none-turn (suc flow) sent none =
       let so_far = sending_turn case now may givens flow sent in
-      let same = none-turn flow sent (or_right (lacks may givens flow sent) (some_lacks may givens flow sent) none) in
+      let neither = or_parts (lacks may givens flow sent) (some_lacks may givens flow sent) none in
+      let same = none-turn flow sent neither.1 in
       ap (λ b. cond b (with_packet case now flow so_far) so_far)
-      (ap (lacks may givens flow) same ∙ or_left (lacks may givens flow sent) (some_lacks may givens flow sent) none) ∙ same
+      (ap (lacks may givens flow) same ∙ neither.0) ∙ same
 
   pub turns-over : (turns : ℕ) (sent : List Sent) → some_lacks may givens (length case.flows) sent ≡ false → turns_of case now may givens turns sent ≡ sent
   turns-over zero sent none = refl

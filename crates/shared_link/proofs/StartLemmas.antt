@@ -1,6 +1,6 @@
 -- What a flow's start changes.
-use Rattle.std.proofs.Common.{◌≡◌, ℕ, zero, suc, ◌-◌, ◌<◌, ◌≤◌, Bool, true, false, cond, eqb, ltb, ◌||◌, List, [], ◌∷◌, length, refl, ap, sym, ◌∙◌, subst, arith, inl, inr}
-use Rattle.std.proofs.lemmas.Bool.{cases_lt}
+use Rattle.std.proofs.Common.{◌≡◌, ℕ, zero, suc, ◌-◌, ◌≤◌, Bool, true, false, cond, eqb, ltb, ◌||◌, List, [], ◌∷◌, length, refl, ap, sym, ◌∙◌, subst, arith, inl, inr}
+use Rattle.std.proofs.lemmas.Bool.{cases_lt, or_right, eqb-true, lt-ltb}
 use Rattle.std.proofs.lemmas.Bool.Decides.{nat_tests}
 use Rattle.ccp_base.specs.declared.ack.Ack.{Ack}
 use Rattle.ccp_base.specs.Limits.{most_flight}
@@ -15,9 +15,6 @@ use Rattle.shared_link.specs.SharedLaws.{WaitsForStart, AreSentFrom, MaySendAtOn
 below_none : (n most : ℕ) → most ≡ 0 → ltb n most ≡ false
 below_none n most none = grind (arith, nat_tests)
 
-same_of : (a b : ℕ) → eqb a b ≡ true → a ≡ b
-same_of a b is = grind (arith, nat_tests)
-
 module _ (case : SharedCase) (now : ℕ) (givens : ℕ → List GivenAck) (may : ℕ → ℕ) (flow : ℕ) (none : may flow ≡ 0) where
   never_lacks : (sent : List Sent) → lacks may givens flow sent ≡ false
   never_lacks sent = below_none _ (may flow) none
@@ -26,7 +23,7 @@ module _ (case : SharedCase) (now : ℕ) (givens : ℕ → List GivenAck) (may :
   of_another : (e : Bool) (sender : ℕ) (sent : List Sent) → eqb sender flow ≡ e → lacks may givens sender sent ≡ true
       → cond e (packet_after case now sender sent ∷ own_packets flow sent) (own_packets flow sent) ≡ own_packets flow sent
   of_another true sender sent is sends =
-      absurd (let wrong : true ≡ false = sym sends ∙ ap (λ f. lacks may givens f sent) (same_of sender flow is) ∙ never_lacks sent in cc)
+      absurd (let wrong : true ≡ false = sym sends ∙ ap (λ f. lacks may givens f sent) (eqb-true sender flow is) ∙ never_lacks sent in cc)
   of_another false sender sent is sends = refl
 
   own_if : (b : Bool) (sender : ℕ) (sent : List Sent) → lacks may givens sender sent ≡ b → own_packets flow (cond b (with_packet case now sender sent) sent) ≡ own_packets flow sent
@@ -52,16 +49,9 @@ module _ (case : SharedCase) (now : ℕ) (givens : ℕ → List GivenAck) (may :
 
 -- ---- before a flow's start
 
-or_true : (a b : Bool) → b ≡ true → a || b ≡ true
-or_true true b is = refl
-or_true false b is = is
-
 or_none : (a b : Bool) → b ≡ false → a || b ≡ a
 or_none true b none = refl
 or_none false b none = none
-
-before_is : (now start : ℕ) → now < start → ltb now start ≡ true
-before_is now start before = grind (arith, nat_tests)
 
 pub waits_for_start : (case : SharedCase) (asks : List Ask) (run : SharedLinkRun) (flow : ℕ) → WaitsForStart case asks run flow
 waits_for_start case asks run flow before =
@@ -69,7 +59,7 @@ waits_for_start case asks run flow before =
     let start = (flow_link_at case flow).start_us in
     let ends = eqb (ask_at asks flow).left 0 in
     let allowance = allowance_of (flow_link_at case flow).mss (ask_at asks flow).window in
-    let none : allowed case now asks flow ≡ 0 = ap (λ b. cond b 0 allowance) (or_true ends (ltb now start) (before_is now start before)) in
+    let none : allowed case now asks flow ≡ 0 = ap (λ b. cond b 0 allowance) (or_right ends (ltb now start) (lt-ltb now start before)) in
     own_turns case now run.givens (allowed case now asks) flow none most_flight run.sent
 
 -- ---- packets sent at a time or later

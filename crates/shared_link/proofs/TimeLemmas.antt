@@ -7,7 +7,8 @@ use Rattle.link_model.specs.declared.chance.Chance.{Chance}
 use Rattle.link_model.specs.Traces.{longest_period, period, IsTrace}
 use Rattle.link_model.specs.Chances.{chance_number, chance_time, first_chance}
 use Rattle.link_model.specs.LinkMoves.{flight_count}
-use Rattle.link_model.proofs.ChanceLemmas.{chance_time_rises, chance_time-suc, first_chance_soon, le_first_chance, turn_below}
+use Rattle.link_model.proofs.ChanceLemmas.{chance_time_rises, chance_time-suc, le_first_chance, turn_below}
+use Rattle.link_model.proofs.LineLemmas.{due_soon}
 use Rattle.link_model.proofs.SendingLemmas.{one_more, no_more}
 use Rattle.shared_link.specs.declared.sending.Sending.{Sending}
 use Rattle.shared_link.specs.Kept.{IsSending, span}
@@ -25,9 +26,6 @@ module _ (times : List ℕ) (trace : IsTrace times) where
       let again : chance_time times (k + n + 1) ≡ chance_time times (k + suc n) = ap (chance_time times) same in
       omega (arith, chance_time-more n k, hour, step, again)
 
-  pub due_soon : (now : ℕ) → chance_time times (first_chance times now 0) ≤ now + longest_period
-  due_soon now = omega (arith, first_chance_soon times trace now, hour)
-
   module _ (sending : Sending) (is : IsSending times sending) (waits : sending.queue.waiting < most_queue) where
     -- the chance that is given next
     pub own_soon : chance_time times (chance_number times sending.queue.next) ≤ sending.now + most_queue * longest_period + 1
@@ -40,11 +38,11 @@ module _ (times : List ℕ) (trace : IsTrace times) where
           | inl before ↦
               (let same : own ≡ due = omega (arith, is.next) in
               let again : chance_time times own ≡ chance_time times due = ap (chance_time times) same in
-              omega (arith, again, due_soon sending.now))
+              omega (arith, again, due_soon times trace sending.now))
           | inr not_before ↦
               (let same : own ≤ later + (most_queue - 1) = omega (arith, is.next, is.waiting) in
               let rises = chance_time_rises times trace own (later + (most_queue - 1)) same in
-              omega (arith, rises, chance_time-more (most_queue - 1) later, due_soon (sending.now + 1)))
+              omega (arith, rises, chance_time-more (most_queue - 1) later, due_soon times trace (sending.now + 1)))
         ]
 
     pub own_not_before : sending.now ≤ chance_time times (chance_number times sending.queue.next)

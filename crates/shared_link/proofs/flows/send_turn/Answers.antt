@@ -1,9 +1,9 @@
 use Rattle.std.proofs.Common.{◌≡◌, ◌+◌, suc, true, false, cond, List, length, subst, ap, sym, ◌∙◌, arith, rules}
 use Rattle.std.specs.Prelude.{IsFalse}
+use Rattle.std.proofs.lemmas.Bool.{or_from}
 use Rattle.shared_link.specs.declared.flow_traffic.FlowTraffic.{FlowTraffic}
 use Rattle.shared_link.specs.SharedRounds.{allowed, lacks, some_lacks, sending_turn, with_packet}
 use Rattle.shared_link.specs.Kept.{Follows, FlowsFollow}
-use Rattle.shared_link.proofs.SendingLemmas.{or_false}
 use Rattle.shared_link.proofs.flows.send_turn.Goals.{then-send_one, else-send_one}
 use Rattle.shared_link.proofs.flows.send_turn.Goals as goal
 
@@ -36,7 +36,7 @@ loop-flow-preserved c =
                 let before = c.loop-flow.invariant.7 (sym w.has_sent-is ∙ none) sent givens
                 (subst (λ (flows : List FlowTraffic). FlowsFollow case flows sent givens) same follows) in
                 ap (λ k. some_lacks may givens k sent) (sym one)
-                ∙ or_false (lacks may givens flow sent) (some_lacks may givens flow sent) (ap (λ n. lacks (allowed case n asks) givens flow sent) (sym c.loop-flow.invariant.5) ∙ sym (c.send_one.ensures.lacks is sent givens follows)) before)
+                ∙ or_from (lacks may givens flow sent) (some_lacks may givens flow sent) (ap (λ n. lacks (allowed case n asks) givens flow sent) (sym c.loop-flow.invariant.5) ∙ sym (c.send_one.ensures.lacks is sent givens follows)) before)
           ],
     )
 
