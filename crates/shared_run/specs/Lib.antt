@@ -13,3 +13,4 @@ pub mod RoundFlows
 pub mod LiftedFlow
 pub mod Orders
 pub mod KnownFlows
+pub mod RunStarts

@@ -53,11 +53,24 @@ pub(crate) fn know_flows<C: Course, F: GivenFlow, R: Wait>(
     let mut number = 0;
     let mut rest = flows;
     while let Some((flow, later)) = rest.split_first() {
-        known.push(know_flow(rt, &flow.lock(rt), number)?)?;
+        known.push(know_locked(rt, flow, number)?)?;
         number += 1;
         rest = later;
     }
     Ok(known)
+}
+
+// A function of its own: the loop of its caller has no lock to give back.
+/// What is known of a flow behind its lock before the first round.
+fn know_locked<C: Course, F: GivenFlow, R: Wait>(
+    rt: &R,
+    flow: &LockedRunFlow<C, F>,
+    number: u32,
+) -> Result<KnownFlow<C>, NoMemory>
+    ensures number { IfOk result (λ known. known.number ≡ number) }
+    ensures round { IfOk result (λ known. known.round ≡ 0) }
+{
+    know_flow(rt, &flow.lock(rt), number)
 }
 
 /// What is known of a flow before the first round. The call waits forever if its lock has another one: a lock's type

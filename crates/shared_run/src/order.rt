@@ -7,7 +7,7 @@ ghost use Rattle.shared_run.specs.KnownFlows.{FlowRound, flow_rounds, with_round
 
 use crate::course::Course;
 use crate::desk::Desk;
-use crate::known_flow::{KnownFlows, PassedPart};
+use crate::known_flow::{KnownFlow, KnownFlows, PassedPart};
 use crate::part_desk::PartDesk;
 use crate::round_acks::RoundAcks;
 use crate::run_flow::LockedRunFlow;
@@ -16,7 +16,7 @@ use ccp_base::{Gate, NoMemory};
 use std::alloc::Global;
 use std::marker::Model;
 use std::sync::Wait;
-use worker_desk::run_between_points;
+use worker_desk::{CaseRun, run_between_points};
 
 /// A flow's part of a round: what the flow is given, and, once a thread has done the part, what is known of the flow.
 #[derive(Drop)]
@@ -346,7 +346,27 @@ fn pass_part<C: Course, F: GivenFlow, R: Wait, G: Gate>(
         known: None,
     };
     let run = run_between_points(&mut desk, worker, acks.number)?;
-    match desk.known {
+    passed_part(acks, desk.known, run)
+}
+
+// A function of its own: what is known of the flow is all that it needs of the desk.
+/// What is known of a flow after its part of a round, which was run between these two points of the gate.
+fn passed_part<C: Course>(
+    acks: &RoundAcks<C>,
+    known: Option<Result<KnownFlow<C>, NoMemory>>,
+    run: CaseRun,
+) -> Result<PassedPart<C>, NoMemory>
+    requires done { IsSome known }
+    requires own { run.case ≡ acks.now.number }
+    requires number { IfSome known (λ known. IfOk known (λ flow. flow.number ≡ acks.now.number)) }
+    requires round { IfSome known (λ known. IfOk known (λ flow. flow.round ≡ acks.now.round + 1)) }
+    ensures number { IfOk result (λ part. part.flow.number ≡ acks.now.number) }
+    ensures round { IfOk result (λ part. part.flow.round ≡ acks.now.round + 1) }
+    ensures run { IfOk result (λ part. part.run ≡ run) }
+{
+    // for the contract alone
+    let _ = acks;
+    match known {
         Some(known) => Ok(PassedPart { flow: known?, run }),
         None => unreachable!(),
     }

@@ -5,6 +5,7 @@ ghost use Rattle.shared_link.specs.SharedLimits.{IsWithin};
 ghost use Rattle.shared_run.specs.Courses.{asks_in, acks_in_round, StandsAfter, HasEnded};
 ghost use Rattle.shared_run.specs.Orders.{AreDealt, IsDealtBefore, DealsOne};
 ghost use Rattle.shared_run.specs.KnownFlows.{IsKnown, AreKnown, AreRested};
+ghost use Rattle.shared_run.specs.RunStarts.{MayBegin, IsOver};
 
 use crate::course::Course;
 use crate::desk::Desk;
@@ -21,7 +22,7 @@ use shared_link::{PackedAcks, SharedLink};
 use std::alloc::Global;
 use std::sync::Wait;
 use std::thread;
-use std::thread::Threads;
+use std::thread::{Scope, Threads};
 
 /// The link at a run's end, how many rounds there were, and what the caller knows of the flows then.
 #[derive(Drop)]
@@ -195,56 +196,78 @@ pub(crate) fn run_by_workers<
     bells: &'e [Bell],
     gate: &'e G,
 ) -> Result<RunEnd<C>, NoMemory>
-    requires workers { 1 ≤ length bells.now }
-    requires few_workers { length bells.now ≤ most_workers }
-    requires flows { length flows.now ≡ length C.cases }
-    requires few { length flows.now ≤ most_flows }
-    requires within { IsWithin C.link }
-    requires links { length C.link.flows ≡ length C.cases }
-    requires stands { StandsAfter C.link C.cases 0 link }
-    requires rounds { most ≤ most_rounds }
-    ensures end { IfOk result (λ end. HasEnded C.link C.cases most end.rounds end.link) }
-    ensures count { IfOk result (λ end. length end.known ≡ length C.cases) }
-    ensures known { IfOk result (λ end. AreKnown end.known end.rounds) }
+    requires begins { MayBegin C.link C.cases link (length flows.now) (length bells.now) most }
+    ensures over { IfOk result (λ end. IsOver C.link C.cases most end.rounds end.link end.known) }
 {
     thread::scope(
         thread::scope_env(),
         rt,
         move |scope| -> Result<RunEnd<C>, NoMemory>
-            requires workers { 1 ≤ length bells.now }
-            requires few_workers { length bells.now ≤ most_workers }
-            requires flows { length flows.now ≡ length C.cases }
-            requires few { length flows.now ≤ most_flows }
-            requires within { IsWithin C.link }
-            requires links { length C.link.flows ≡ length C.cases }
-            requires stands { StandsAfter C.link C.cases 0 link }
-            requires rounds { most ≤ most_rounds }
-            ensures end { IfOk result (λ end. HasEnded C.link C.cases most end.rounds end.link) }
-            ensures count { IfOk result (λ end. length end.known ≡ length C.cases) }
-            ensures known { IfOk result (λ end. AreKnown end.known end.rounds) }
-        {
-            let mut handles = start_workers(scope, rt, alloc, flows, bells, gate)?;
-            let known = know_flows(rt, alloc, flows)?;
-            let mut desk = Desk::new(alloc, link, known);
-            let rounds = run_rounds(
-                rt,
-                alloc,
-                flows,
-                &mut desk,
-                handles.as_mut_slice(),
-                most,
-                gate,
-            )?;
-            let Desk {
-                link,
-                known,
-                asks: _,
-            } = desk;
-            Ok(RunEnd {
-                link,
-                rounds,
-                known,
-            })
-        },
+            requires begins { MayBegin C.link C.cases link (length flows.now) (length bells.now) most }
+            ensures over { IfOk result (λ end. IsOver C.link C.cases most end.rounds end.link end.known) }
+        { run_in_scope(scope, rt, alloc, link, flows, most, bells, gate) },
     )
+}
+
+// A function of its own: what the closure of `run_by_workers` requires of threads is no part of its proof.
+/// As `run_by_workers`, with the workers' threads in this scope.
+fn run_in_scope<
+    's,
+    'e,
+    C: Course + Send + Sync + 'e,
+    F: GivenFlow + Send + 'e,
+    R: Threads + Wait + Sync,
+    G: Gate + Sync,
+>(
+    scope: &'s Scope<'s, &'e ()>,
+    rt: &'e R,
+    alloc: Global,
+    link: SharedLink,
+    flows: &'e [LockedRunFlow<C, F>],
+    most: u32,
+    bells: &'e [Bell],
+    gate: &'e G,
+) -> Result<RunEnd<C>, NoMemory>
+    requires begins { MayBegin C.link C.cases link (length flows.now) (length bells.now) most }
+    ensures over { IfOk result (λ end. IsOver C.link C.cases most end.rounds end.link end.known) }
+{
+    let mut handles = start_workers(scope, rt, alloc, flows, bells, gate)?;
+    run_desk(rt, alloc, link, flows, handles.as_mut_slice(), most, gate)
+}
+
+/// The rounds of a run on a desk with this link, whose workers have been started.
+fn run_desk<'e, C: Course, F: GivenFlow, R: Wait, G: Gate>(
+    rt: &R,
+    alloc: Global,
+    link: SharedLink,
+    flows: &[LockedRunFlow<C, F>],
+    handles: &mut [WorkerHandle<'e, C>],
+    most: u32,
+    gate: &G,
+) -> Result<RunEnd<C>, NoMemory>
+    requires begins { MayBegin C.link C.cases link (length flows.now) (length handles.old) most }
+    ensures over { IfOk result (λ end. IsOver C.link C.cases most end.rounds end.link end.known) }
+{
+    let known = know_flows(rt, alloc, flows)?;
+    let mut desk = Desk::new(alloc, link, known);
+    let rounds = run_rounds(rt, alloc, flows, &mut desk, handles, most, gate)?;
+    Ok(end_of(desk, rounds))
+}
+
+/// The end of a run after this many rounds.
+fn end_of<C: Course>(desk: Desk<C>, rounds: u32) -> RunEnd<C>
+    ensures link { result.link ≡ desk.link }
+    ensures rounds { result.rounds ≡ rounds }
+    ensures known { result.known ≡ desk.known }
+{
+    let Desk {
+        link,
+        known,
+        asks: _,
+    } = desk;
+    RunEnd {
+        link,
+        rounds,
+        known,
+    }
 }

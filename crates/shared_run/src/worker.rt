@@ -20,10 +20,25 @@ pub(crate) fn serve<'e, C: Course, F: GivenFlow, R: Wait, G: Gate>(
     let mut orders = orders;
     let mut done = done;
     for _ in rt.forever() {
-        let Some(mut dealt) = orders.receive(rt) else {
+        if !serve_next(rt, alloc, flows, &mut orders, &mut done, gate) {
             return;
-        };
-        dealt.order.do_parts(rt, alloc, flows, gate);
-        let _unsent = done.send(dealt);
+        }
     }
+}
+
+/// Does the next order and sends it back after its parts, unless no more can come. Says whether one came.
+fn serve_next<'e, C: Course, F: GivenFlow, R: Wait, G: Gate>(
+    rt: &R,
+    alloc: Global,
+    flows: &[LockedRunFlow<C, F>],
+    orders: &mut Receiver<'e, Dealt<C>>,
+    done: &mut Sender<'e, Dealt<C>>,
+    gate: &G,
+) -> bool {
+    let Some(mut dealt) = orders.receive(rt) else {
+        return false;
+    };
+    dealt.order.do_parts(rt, alloc, flows, gate);
+    let _unsent = done.send(dealt);
+    true
 }

@@ -31,3 +31,12 @@ loop-flow-preserved g c =
       omega (arith, shorter, l.invariant.1),
       omega (arith, shorter, c.in-Some.ensures.steps.1, l.invariant.2),
     )
+
+pub at-requires : goal.at-requires
+at-requires g c =
+    let l = c.loop-flow in
+    let is : into_iter_items l.flow-iterator ≡ c.in-Some.flow ∷ into_iter_items c.next.new.self = c.in-Some.ensures.steps.0 in
+    let shorter = ap (λ (xs : List _). length xs) is in
+    let all_known = c.requires.all in
+    let flows = c.requires.flows in
+    omega (arith, shorter, l.invariant.1, all_known, flows)

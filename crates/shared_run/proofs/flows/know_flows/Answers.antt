@@ -5,10 +5,10 @@ use Rattle.shared_run.proofs.flows.know_flows.Goals as goal
 pub loop-flow-preserved : goal.loop-flow-preserved
 loop-flow-preserved g c =
     let l = c.loop-flow in
-    let flow = c.in_ok-know_flow.field-0 in
+    let flow = c.in_ok-know_locked.field-0 in
     let count = l.invariant.1 in
     let all = l.invariant.2 in
-    let known = c.in_ok-know_flow.ensures in
+    let known = c.in_ok-know_locked.ensures in
     let same : (flow.number, flow.round) ≡ (length l.known, 0) = λ i. ((known.number ∙ sym count) i, known.round i) in
     let pushed = c.in_ok-push.ensures in
     let long = ap (λ (k : _). length k) pushed ∙ length-append l.known ((flow.number, flow.round) ∷ []) in

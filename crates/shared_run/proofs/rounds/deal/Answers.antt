@@ -88,3 +88,9 @@ loop-list-preserved g c =
       dealt-from round workers all number list old new deals l.invariant.5,
       dealt-rested round workers all number list old new less at deals l.invariant.6,
     )
+
+pub new-acks-requires-clause-few : goal.new-acks-requires-clause-few
+new-acks-requires-clause-few g c = c.requires.round
+
+pub deal_part-requires-clause-workers : goal.deal_part-requires-clause-workers
+deal_part-requires-clause-workers g c = c.requires.workers

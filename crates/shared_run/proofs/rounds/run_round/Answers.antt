@@ -127,3 +127,21 @@ returns-clause-known g c =
     on-ok c.collect_asks.result
     (all-known c.args.done workers all new some long
     (λ number acks at none. done.stay number (rested number acks at none)) done.done)
+
+pub deal-requires-clause-known : goal.deal-requires-clause-known
+deal-requires-clause-known g c = c.requires.known
+
+pub deal-requires-clause-within : goal.deal-requires-clause-within
+deal-requires-clause-within g c = c.requires.within
+
+pub deal-requires-clause-round : goal.deal-requires-clause-round
+deal-requires-clause-round g c = c.requires.rounds
+
+pub collect_asks-requires-clause-few : goal.collect_asks-requires-clause-few
+collect_asks-requires-clause-few g c =
+    let dealt = c.in_ok-deal.ensures.count in
+    let done = c.in_ok-do_orders.ensures.count in
+    omega (arith, dealt, done, c.requires.count, c.requires.few)
+
+pub returns-clause-asks : goal.returns-clause-asks
+returns-clause-asks g c = c.collect_asks.ensures

@@ -2,7 +2,7 @@ use Rattle.std.proofs.Common.{◌≡◌, ◌+◌, ◌<◌, true, false, List, ar
 use Rattle.shared_link.specs.declared.round.Ask.{Ask}
 use Rattle.shared_run.specs.SharedHistory.{have_all}
 use Rattle.shared_run.specs.Courses.{flows_after, asks_in, none_left}
-use Rattle.shared_run.proofs.CourseLemmas.{none_asked, way_begins, way_on, way_ends, way_over}
+use Rattle.shared_run.proofs.CourseLemmas.{asks-count, none_asked, way_begins, way_on, way_ends, way_over}
 use Rattle.shared_run.proofs.rounds.run_rounds.Goals as goal
 
 pub returns-then-none_left-clause-end : goal.returns-then-none_left-clause-end
@@ -55,3 +55,51 @@ returns-clause-end g c =
       stands = l.invariant.0;
       whole = way_over g.C.Course.link g.C.Course.cases c.args.most l.done (omega (arith, c.loop-done-test.false)) l.invariant.2;
     }
+
+pub collect_asks-requires-clause-known : goal.collect_asks-requires-clause-known
+collect_asks-requires-clause-known g c = c.requires.known
+
+pub collect_asks-requires-clause-flows : goal.collect_asks-requires-clause-flows
+collect_asks-requires-clause-flows g c = c.requires.count ∙ sym (asks-count g.C.Course.link g.C.Course.cases 0)
+
+pub collect_asks-requires-clause-few : goal.collect_asks-requires-clause-few
+collect_asks-requires-clause-few g c = omega (arith, c.requires.count, c.requires.few)
+
+pub run_round-requires-clause-workers : goal.run_round-requires-clause-workers
+run_round-requires-clause-workers g c = c.loop-done.invariant.4
+
+pub run_round-requires-clause-count : goal.run_round-requires-clause-count
+run_round-requires-clause-count g c = c.loop-done.invariant.5
+
+pub run_round-requires-clause-known : goal.run_round-requires-clause-known
+run_round-requires-clause-known g c = c.loop-done.invariant.6
+
+pub run_round-requires-clause-few : goal.run_round-requires-clause-few
+run_round-requires-clause-few g c = c.requires.few
+
+pub run_round-requires-clause-within : goal.run_round-requires-clause-within
+run_round-requires-clause-within g c = c.requires.within
+
+pub run_round-requires-clause-links : goal.run_round-requires-clause-links
+run_round-requires-clause-links g c = c.requires.links
+
+pub run_round-requires-clause-stands : goal.run_round-requires-clause-stands
+run_round-requires-clause-stands g c = c.loop-done.invariant.0
+
+pub run_round-requires-clause-asks : goal.run_round-requires-clause-asks
+run_round-requires-clause-asks g c = c.loop-done.invariant.1
+
+pub run_round-requires-clause-rounds : goal.run_round-requires-clause-rounds
+run_round-requires-clause-rounds g c = omega (arith, c.loop-done-test.true, c.requires.rounds)
+
+pub returns-then-none_left-clause-count : goal.returns-then-none_left-clause-count
+returns-then-none_left-clause-count g c = c.in_ok-run_round.ensures.count
+
+pub returns-then-none_left-clause-known : goal.returns-then-none_left-clause-known
+returns-then-none_left-clause-known g c = c.in_ok-run_round.ensures.known
+
+pub returns-clause-count : goal.returns-clause-count
+returns-clause-count g c = c.loop-done.invariant.5
+
+pub returns-clause-known : goal.returns-clause-known
+returns-clause-known g c = c.loop-done.invariant.6

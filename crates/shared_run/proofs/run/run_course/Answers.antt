@@ -1,4 +1,4 @@
-use Rattle.std.proofs.Common.{◌≡◌, ◌≤◌, ℕ, List, map, length, sym, ap, ◌∙◌, subst}
+use Rattle.std.proofs.Common.{rules, ◌≡◌, ◌≤◌, ℕ, List, map, length, sym, ap, ◌∙◌, subst}
 use Rattle.std.proofs.lemmas.List.{length-map}
 use Rattle.flow_core.specs.declared.case.Case.{Case}
 use Rattle.flow_core.specs.Cores.{CoreState}
@@ -10,17 +10,28 @@ use Rattle.shared_run.proofs.CourseLemmas.{flows_count}
 use Rattle.shared_run.proofs.RunLemmas.{most-few, flows-are, counts-are}
 use Rattle.shared_run.proofs.run.run_course.Goals as goal
 
-pub run_by_workers-requires-clause-links : goal.run_by_workers-requires-clause-links
-run_by_workers-requires-clause-links g c κs held =
+pub run_by_workers-requires-clause-begins : goal.run_by_workers-requires-clause-begins
+run_by_workers-requires-clause-begins g c κs held =
     let link = g.C.Course.link in
     let cases = g.C.Course.cases in
-    sym (length-map link.flows link_at_once) ∙ ap length c.requires.links ∙ length-map (map plan_of cases) flow_link_of ∙ length-map cases plan_of
-
-pub run_by_workers-requires-clause-rounds : goal.run_by_workers-requires-clause-rounds
-run_by_workers-requires-clause-rounds g c κs held =
     let most : c.most_of-most.result ≡ round_limit g.C.Course.cases c.args.most =
     c.most_of-most.ensures ∙ ap (λ (list : List Case). round_limit list c.args.most) (c.as_slice.ensures ∙ c.requires.cases) in
-    subst (λ (n : ℕ). n ≤ 10000) (sym most) (most-few g.C.Course.cases c.args.most c.requires.rounds)
+    record {
+      has_workers = search rules;
+      few_workers = search rules;
+      all_flows = search rules;
+      few_flows = search rules;
+      within = c.requires.within;
+      links = sym (length-map link.flows link_at_once) ∙ ap length c.requires.links ∙ length-map (map plan_of cases) flow_link_of ∙ length-map cases plan_of;
+      stands = c.in_ok-link.ensures.stands;
+      few_rounds = subst (λ (n : ℕ). n ≤ 10000) (sym most) (most-few cases c.args.most c.requires.rounds);
+    }
+
+pub close_flows-requires-clause-all : goal.close_flows-requires-clause-all
+close_flows-requires-clause-all g c = c.in_ok-end.ensures.over.count ∙ sym c.in_ok-link.ensures.flows
+
+pub close_flows-requires-clause-known : goal.close_flows-requires-clause-known
+close_flows-requires-clause-known g c = c.in_ok-end.ensures.over.all_known
 
 pub close_flows-requires-clause-flows : goal.close_flows-requires-clause-flows
 close_flows-requires-clause-flows g c =
@@ -34,7 +45,7 @@ returns-clause-flows g c =
     let most : c.most_of-most.result ≡ round_limit cases c.args.most =
     c.most_of-most.ensures ∙ ap (λ (list : List Case). round_limit list c.args.most) (c.as_slice.ensures ∙ c.requires.cases) in
     let ended : HasEnded link cases (round_limit cases c.args.most) end.rounds end.link =
-    subst (λ (n : ℕ). HasEnded link cases n end.rounds end.link) most c.in_ok-end.ensures.end in
+    subst (λ (n : ℕ). HasEnded link cases n end.rounds end.link) most c.in_ok-end.ensures.over.ended in
     c.in_ok-flows.ensures ∙ ap (λ (cores : List CoreState). map (kept_at g.F.GivenFlow.at) cores) (flows-are link cases c.args.most end.rounds end.link ended)
 
 pub returns-clause-counts : goal.returns-clause-counts
@@ -45,5 +56,5 @@ returns-clause-counts g c =
     let most : c.most_of-most.result ≡ round_limit cases c.args.most =
     c.most_of-most.ensures ∙ ap (λ (list : List Case). round_limit list c.args.most) (c.as_slice.ensures ∙ c.requires.cases) in
     let ended : HasEnded link cases (round_limit cases c.args.most) end.rounds end.link =
-    subst (λ (n : ℕ). HasEnded link cases n end.rounds end.link) most c.in_ok-end.ensures.end in
+    subst (λ (n : ℕ). HasEnded link cases n end.rounds end.link) most c.in_ok-end.ensures.over.ended in
     counts-are link cases c.args.most end.rounds end.link ended c.counts-counts.result c.counts-counts.ensures

@@ -33,3 +33,12 @@ loop-left-preserved g c =
       learns.long ∙ count,
       c.in_ok-do_here.ensures.link ∙ l.invariant.6,
     )
+
+pub returns-clause-stay : goal.returns-clause-stay
+returns-clause-stay g c = c.loop-left.invariant.4
+
+pub returns-clause-count : goal.returns-clause-count
+returns-clause-count g c = c.loop-left.invariant.5
+
+pub returns-clause-link : goal.returns-clause-link
+returns-clause-link g c = c.loop-left.invariant.6

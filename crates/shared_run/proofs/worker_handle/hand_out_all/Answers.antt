@@ -50,3 +50,15 @@ loop-worker-preserved g c =
       out.long ∙ count,
       c.in_ok-hand_out.ensures.link ∙ l.invariant.7,
     )
+
+pub returns-clause-stay : goal.returns-clause-stay
+returns-clause-stay g c = c.loop-worker.invariant.5
+
+pub returns-clause-count : goal.returns-clause-count
+returns-clause-count g c = c.loop-worker.invariant.6
+
+pub returns-clause-link : goal.returns-clause-link
+returns-clause-link g c = c.loop-worker.invariant.7
+
+pub returns-clause-front : goal.returns-clause-front
+returns-clause-front g c = c.loop-worker.invariant.4

@@ -16,3 +16,18 @@ returns g c =
     let round : new.round ≡ acks.round + 1 = c.rest.ensures.round ∙ ap (λ (flow : FlowRound). flow.1 + 1) same in
     map-set {B = FlowRound} (λ place. (place.number, place.round)) items acks.number new
     ∙ (λ i. set (c.self.view_is i) acks.number (number i, round i))
+
+pub rest-requires-clause-none : goal.rest-requires-clause-none
+rest-requires-clause-none g c = c.requires.none
+
+pub rest-requires-clause-number : goal.rest-requires-clause-number
+rest-requires-clause-number g c =
+    ap (λ (flow : FlowRound). flow.0)
+    (place-known (λ place. (place.number, place.round)) c.self.inside.places.items c.args.self.now c.args.acks.now.number c.args.acks.now.round
+    c.index_mut.result.now c.self.view_is c.index_mut.ensures.value c.requires.known)
+
+pub rest-requires-clause-round : goal.rest-requires-clause-round
+rest-requires-clause-round g c =
+    ap (λ (flow : FlowRound). flow.1)
+    (place-known (λ place. (place.number, place.round)) c.self.inside.places.items c.args.self.now c.args.acks.now.number c.args.acks.now.round
+    c.index_mut.result.now c.self.view_is c.index_mut.ensures.value c.requires.known)

@@ -4,19 +4,4 @@ use Rattle.shared_run.proofs.rounds.fn.run_by_workers.scope+FnOnce.call_once.Goa
 pub scope-requires : goal.scope-requires
 scope-requires g c =
     let r = c.requires.1.1.1.1 in
-    let threads = r.1.1.1.1.1.1.1.1 in (
-      threads.0,
-      (
-        threads.1,
-        (
-          threads.2,
-          (
-            threads.3,
-            (
-              threads.4,
-              (r.0, (r.1.0, (r.1.1.0, (r.1.1.1.0, (r.1.1.1.1.0, (r.1.1.1.1.1.0, (r.1.1.1.1.1.1.0, r.1.1.1.1.1.1.1.0))))))),
-            ),
-          ),
-        ),
-      ),
-    )
+    let threads = r.1 in (threads.0, (threads.1, (threads.2, (threads.3, (threads.4, r.0)))))
