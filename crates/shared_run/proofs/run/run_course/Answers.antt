@@ -1,4 +1,4 @@
-use Rattle.std.proofs.Common.{rules, ◌≡◌, ◌≤◌, ℕ, List, map, length, sym, ap, ◌∙◌, subst}
+use Rattle.std.proofs.Common.{◌≡◌, ◌≤◌, ℕ, List, map, length, arith, sym, ap, ◌∙◌, subst}
 use Rattle.std.proofs.lemmas.List.{length-map}
 use Rattle.flow_core.specs.declared.case.Case.{Case}
 use Rattle.flow_core.specs.Cores.{CoreState}
@@ -16,11 +16,19 @@ run_by_workers-requires-clause-begins g c κs held =
     let cases = g.C.Course.cases in
     let most : c.most_of-most.result ≡ round_limit g.C.Course.cases c.args.most =
     c.most_of-most.ensures ∙ ap (λ (list : List Case). round_limit list c.args.most) (c.as_slice.ensures ∙ c.requires.cases) in
+    let flows_are = ap (λ (list : List _). length list) c.as_slice-2.ensures.value in
+    let bells_are = ap (λ (list : List _). length list) c.as_slice-3.ensures.value in
+    let opened = c.in_ok-link.ensures in
+    let flows = opened.flows in
+    let bells = opened.bells in
+    let some : 1 ≤ c.args.workers.count = c.args.workers.some in
+    let most_workers : c.args.workers.count ≤ 32 = c.args.workers.most in
+    let few = c.requires.few in
     record {
-      has_workers = search rules;
-      few_workers = search rules;
-      all_flows = search rules;
-      few_flows = search rules;
+      has_workers = omega (arith, bells_are, bells, some);
+      few_workers = omega (arith, bells_are, bells, most_workers);
+      all_flows = flows_are ∙ flows;
+      few_flows = omega (arith, flows_are, flows, few);
       within = c.requires.within;
       links = sym (length-map link.flows link_at_once) ∙ ap length c.requires.links ∙ length-map (map plan_of cases) flow_link_of ∙ length-map cases plan_of;
       stands = c.in_ok-link.ensures.stands;
