@@ -2,10 +2,10 @@
 use Rattle.std.proofs.Common.{◌≡◌, ◌∙◌, ℕ, Option, Result, Ok, Err, List, inl, inr, subst}
 use Rattle.std.specs.Prelude.{map, String, string_bytes}
 use Rattle.std.specs.declared.io.Error.{Error}
-use Rattle.ccp_run.specs.declared.outcome.Outcome.{Outcome}
-use Rattle.ccp_run.specs.declared.status.Status.{Status}
-use Rattle.ccp_run.specs.Endings.{Ends}
-use Rattle.ccp_run.specs.Streams.{StreamChange}
+use Rattle.run_ending.specs.declared.outcome.Outcome.{Outcome}
+use Rattle.run_ending.specs.declared.status.Status.{Status}
+use Rattle.run_ending.specs.Endings.{Ends}
+use Rattle.run_ending.specs.Streams.{StreamChange}
 use Rattle.ccp.specs.declared.words.WordsFault.{WordsFault}
 use Rattle.ccp.specs.Process.{IsExit, Reports, ReportsFault, EndsWithout, IsProcess}
 use Rattle.ccp.specs.Words.{AreWords, IsCause}

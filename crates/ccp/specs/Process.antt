@@ -4,11 +4,11 @@ use Rattle.std.specs.Iterator.{Drains}
 use Rattle.std.specs.IoError.{error_kind}
 use Rattle.std.specs.declared.io.Error.{Error}
 use Rattle.ccp_base.specs.Outside.{no_memory}
-use Rattle.ccp_run.specs.declared.outcome.Outcome.{Outcome}
-use Rattle.ccp_run.specs.declared.status.Status.{Status}
-use Rattle.ccp_run.specs.declared.status.Status.TheVariants as ends
-use Rattle.ccp_run.specs.Statuses.{status_number, words_line, memory_line}
-use Rattle.ccp_run.specs.Streams.{StreamChange, IsUntouched, Tells}
+use Rattle.run_ending.specs.declared.outcome.Outcome.{Outcome}
+use Rattle.run_ending.specs.declared.status.Status.{Status}
+use Rattle.run_ending.specs.declared.status.Status.TheVariants as ends
+use Rattle.run_ending.specs.Statuses.{status_number, words_line, memory_line}
+use Rattle.run_ending.specs.Streams.{StreamChange, IsUntouched, Tells}
 use Rattle.ccp_run.specs.Tool.{DoesWords}
 use Rattle.ccp.specs.declared.words.WordsFault.{WordsFault}
 use Rattle.ccp.specs.declared.words.WordsFault.TheVariants as faults

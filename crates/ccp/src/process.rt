@@ -2,7 +2,7 @@
 ghost use Rattle.std.specs.Prelude.{IfOk, map, string_bytes};
 ghost use Rattle.std.specs.Iterator.{IsFinite};
 ghost use Rattle.std.specs.Process.{exit_status};
-ghost use Rattle.ccp_run.specs.Streams.{stream_change};
+ghost use Rattle.run_ending.specs.Streams.{stream_change};
 ghost use Rattle.ccp.specs.Process.{IsExit, IsProcess, ReportsFault};
 
 use crate::words::{WordsFault, words};

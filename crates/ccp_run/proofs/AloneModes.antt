@@ -8,7 +8,7 @@ use Rattle.ccp_base.specs.Parts.{parts_of, without_last}
 use Rattle.std.proofs.lemmas.Bool.Decides.{nat_tests}
 use Rattle.ccp_base.specs.Outside.{no_memory}
 use Rattle.feed_core.proofs.FeedBegins.{no-answers}
-use Rattle.scenario_json.specs.declared.fault.SceneFault.{SceneFault}
+use Rattle.scene_faults.specs.declared.fault.SceneFault.{SceneFault}
 use Rattle.scene_members.specs.declared.mode.SceneMode.TheVariants as scene
 use Rattle.scenario_json.specs.Scene.{Scene, scene_of}
 use Rattle.portus_core.specs.Programs.{Form}
@@ -18,6 +18,10 @@ use Rattle.portus_build.specs.Texts.{IsBuiltFrom, IsNoProgram}
 use Rattle.portus_build.proofs.SettledTexts.{settled_text}
 use Rattle.ccp_words.specs.declared.mode.Alone.{Alone as AloneMode}
 use Rattle.ccp_words.specs.declared.mode.Alone.TheVariants as mode
+use Rattle.run_ending.specs.declared.refusal.Limit.TheVariants.{Input, Audit}
+use Rattle.run_ending.specs.declared.refusal.Refusal.{Refusal}
+use Rattle.run_ending.specs.declared.refusal.Refusal.TheVariants.{TooLong, NoSeparator, Program, Line, TooManyAcks, Scene as SceneRefused, Frame, FrameCut}
+use Rattle.run_ending.specs.ErrorLine.{most_bytes}
 use Rattle.ccp_run.specs.Modes.{Alone, IsInput, rules_of}
 use Rattle.fold_run.specs.AckLine.{AckLine, read_ack_line}
 use Rattle.fold_run.specs.AckLine as said
@@ -31,14 +35,10 @@ use Rattle.feed_core.specs.FeedBytes.{Tail, feed_of}
 use Rattle.feed_core.specs.FeedBytes as feeds
 use Rattle.feed_core.specs.Answering.{end_from}
 use Rattle.feed_core.specs.FeedEnds.{feed_end}
-use Rattle.ccp_run.specs.declared.refusal.Limit.TheVariants.{Input, Audit}
-use Rattle.ccp_run.specs.declared.refusal.Refusal.{Refusal}
-use Rattle.ccp_run.specs.declared.refusal.Refusal.TheVariants.{TooLong, NoSeparator, Program, Line, TooManyAcks, Scene as SceneRefused, Frame, FrameCut}
 use Rattle.ccp_run.specs.Check.{IsProgramText, IsCheckOutput, IsNoCheck, check_rules}
 use Rattle.ccp_run.specs.FeedRuns.{IsNoFeed, feed_rules}
 use Rattle.ccp_run.specs.Fold.{acks_below, IsFoldInput, IsFoldOutput, IsNoFold, fold_rules}
 use Rattle.ccp_run.specs.AuditRuns.{IsAuditCut, IsAuditInput, IsAuditOutput, IsNoAudit, audit_rules}
-use Rattle.ccp_run.specs.ErrorLine.{most_bytes}
 use Rattle.ccp_run.specs.Settled.{IsInputSettled}
 use Rattle.ccp_run.proofs.DriveModes.{drive_mode}
 use Rattle.ccp_run.proofs.ModeLaws.{IsMode, reads_to_end, settled_by}

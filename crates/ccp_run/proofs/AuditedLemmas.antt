@@ -16,7 +16,7 @@ use Rattle.scene_core.specs.CasePlans.{plan_of}
 use Rattle.scenario_json.specs.Scene.{Scene, scene_with}
 use Rattle.run_audit.specs.Audit.{IsWordOf, IsLiveText}
 use Rattle.run_audit.proofs.WordsLemmas.{yes_only}
-use Rattle.ccp_run.specs.declared.outcome.ModeOutput.{ModeOutput}
+use Rattle.run_ending.specs.declared.outcome.ModeOutput.{ModeOutput}
 use Rattle.ccp_run.specs.AuditRuns.{verdict_text}
 use Rattle.ccp_run.specs.Live.{IsRightBook}
 use Rattle.ccp_run.specs.Scenes.{Says, IsScenario}

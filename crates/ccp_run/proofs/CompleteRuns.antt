@@ -1,17 +1,17 @@
 -- A run on an input of its mode isn't refused, and one on any other bytes is.
 use Rattle.std.proofs.Common.{◌≡◌, ◌≤◌, ◌<◌, ◌∙◌, inl, inr, ℕ, Bool, true, false, List, [], ◌++◌, length, Some, None, arith, ap, sym, subst, refl, append-nil, length-append}
 use Rattle.ccp_base.specs.Outside.{Known, Rose, Takes, IsAtEnd, TakesOver}
-use Rattle.ccp_run.specs.declared.outcome.ModeOutput.{ModeOutput}
-use Rattle.ccp_run.specs.declared.outcome.Outcome.{Outcome}
-use Rattle.ccp_run.specs.declared.refusal.Refusal.{Refusal}
-use Rattle.ccp_run.specs.declared.status.Status.{Status}
-use Rattle.ccp_run.specs.declared.status.Status.TheVariants as status
+use Rattle.run_ending.specs.declared.outcome.ModeOutput.{ModeOutput}
+use Rattle.run_ending.specs.declared.outcome.Outcome.{Outcome}
+use Rattle.run_ending.specs.declared.refusal.Refusal.{Refusal}
+use Rattle.run_ending.specs.declared.status.Status.{Status}
+use Rattle.run_ending.specs.declared.status.Status.TheVariants as status
+use Rattle.run_ending.specs.Statuses.{status_number}
+use Rattle.run_ending.specs.Streams.{StreamChange, HasInput}
 use Rattle.ccp_run.specs.Attempts.{MakesOutput, RefusesBytes, RefusesAny}
 use Rattle.ccp_run.specs.Complete.{EndsAs, IsNoInput, AnswersOrRefuses}
 use Rattle.ccp_run.specs.Modes.{Task, limit_of, is_read, is_stream, is_answered, IsInput, IsMade, IsInputRefusal}
 use Rattle.ccp_run.specs.Run.{EndsWith, IsRun, WritesAnyFront}
-use Rattle.ccp_run.specs.Statuses.{status_number}
-use Rattle.ccp_run.specs.Streams.{StreamChange, HasInput}
 use Rattle.ccp_run.proofs.WorkerModes.{is_mode}
 
 not_over : (limit : ℕ) (bytes : List ℕ) (old new : Known) → old ≡ Some bytes → length bytes ≤ limit → TakesOver limit old new → ⊥

@@ -12,14 +12,14 @@ use Rattle.driven_flow.specs.Front.{divided, front_in, IsOverlong, IsDivided, Is
 use Rattle.driven_flow.proofs.FrontLaws.{divided-at-separator, divided-at-first}
 use Rattle.driven_flow.proofs.FrontLineLemmas.{divided-goes-on}
 use Rattle.scene_members.specs.declared.mode.SceneMode.TheVariants.{Driven}
-use Rattle.scenario_json.specs.declared.fault.SceneFault.{SceneFault}
+use Rattle.scene_faults.specs.declared.fault.SceneFault.{SceneFault}
 use Rattle.scenario_json.specs.Scene.{Scene, scene_of}
+use Rattle.run_ending.specs.declared.refusal.Limit.TheVariants.{Input}
+use Rattle.run_ending.specs.declared.refusal.Refusal.{Refusal}
+use Rattle.run_ending.specs.declared.refusal.Refusal.TheVariants as refusal
+use Rattle.run_ending.specs.declared.stop.Stop.{Stop}
+use Rattle.run_ending.specs.declared.stop.Stop.TheVariants as stop
 use Rattle.ccp_run.specs.declared.modes.drive.Opened.{Opened}
-use Rattle.ccp_run.specs.declared.refusal.Limit.TheVariants.{Input}
-use Rattle.ccp_run.specs.declared.refusal.Refusal.{Refusal}
-use Rattle.ccp_run.specs.declared.refusal.Refusal.TheVariants as refusal
-use Rattle.ccp_run.specs.declared.stop.Stop.{Stop}
-use Rattle.ccp_run.specs.declared.stop.Stop.TheVariants as stop
 use Rattle.ccp_run.specs.DriveEnds.{IsDrivenScene, IsOpened, OpensDrive, StopsOpening, front_stop}
 use Rattle.ccp_run.specs.DriveInputs.{undivided, long, with_scene, beginning_at, beginning_of, written_in, drive_written, refusal_in, drive_refusal, IsOpenAt}
 use Rattle.ccp_run.specs.Scenes.{StopsScene}

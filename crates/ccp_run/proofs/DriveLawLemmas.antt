@@ -14,9 +14,9 @@ use Rattle.driven_flow.proofs.AfterEndLemmas.{refuses-after-end}
 use Rattle.driven_flow.proofs.FrontLaws.{divided-at-separator}
 use Rattle.driven_flow.proofs.FrontLineLemmas.{goes-further}
 use Rattle.scene_members.specs.declared.mode.SceneMode.TheVariants.{Driven}
-use Rattle.scenario_json.specs.declared.fault.SceneFault.{SceneFault}
+use Rattle.scene_faults.specs.declared.fault.SceneFault.{SceneFault}
 use Rattle.scenario_json.specs.Scene.{Scene, scene_of}
-use Rattle.ccp_run.specs.declared.refusal.Refusal.{Refusal}
+use Rattle.run_ending.specs.declared.refusal.Refusal.{Refusal}
 use Rattle.ccp_run.specs.DriveInputs.{Beginning, undivided, long, faulty, divided_at, with_scene, beginning_at, beginning_of, begun, written_in, drive_written, end_refusal, refusal_in, flows_in}
 use Rattle.ccp_run.specs.DriveLaws.{DriveWritesFronts, AddsRefusalsAlone, DriveEndsForGood}
 

@@ -1,7 +1,7 @@
 -- The modes of driven flows have what the theorem asks of a mode.
 use Rattle.std.proofs.Common.{◌≡◌, ◌⊎◌, inl, inr, Bool, List, ℕ, Option, Some, None, refl, true≢false}
 use Rattle.ccp_words.specs.declared.mode.DriveText.{DriveText}
-use Rattle.ccp_run.specs.declared.refusal.Refusal.{Refusal}
+use Rattle.run_ending.specs.declared.refusal.Refusal.{Refusal}
 use Rattle.ccp_run.specs.Drive.{IsDriveInput, IsNoDrive, drive_rules, drive_text_rules}
 use Rattle.ccp_run.specs.DriveInputs.{drive_refusal}
 use Rattle.ccp_run.proofs.ModeLaws.{IsMode, settled_by}

@@ -4,20 +4,20 @@ use Rattle.ccp_base.specs.Limits.{most_audit_bytes}
 use Rattle.ccp_base.specs.Outside.{Takes, IsAtEnd, no_memory}
 use Rattle.feed_core.specs.FeedEnds.{Stream as Frames, stream as frames}
 use Rattle.ccp_words.specs.declared.mode.Alone.TheVariants.{Drive}
+use Rattle.run_ending.specs.declared.outcome.ModeOutput.{ModeOutput}
+use Rattle.run_ending.specs.declared.outcome.Outcome.{Outcome}
+use Rattle.run_ending.specs.declared.refusal.Limit.TheVariants.{Audit}
+use Rattle.run_ending.specs.declared.refusal.Refusal.{Refusal}
+use Rattle.run_ending.specs.declared.refusal.Refusal.TheVariants.{TooLong}
+use Rattle.run_ending.specs.Endings.{Refuses}
+use Rattle.run_ending.specs.Streams.{StreamChange}
 use Rattle.ccp_run.specs.Modes.{Task, Alone}
 use Rattle.ccp_run.specs.declared.drive_end.DriveEnd.{DriveEnd}
 use Rattle.ccp_run.specs.declared.drive_end.DriveEnd.TheVariants as end
-use Rattle.ccp_run.specs.declared.outcome.ModeOutput.{ModeOutput}
-use Rattle.ccp_run.specs.declared.outcome.Outcome.{Outcome}
-use Rattle.ccp_run.specs.declared.refusal.Limit.TheVariants.{Audit}
-use Rattle.ccp_run.specs.declared.refusal.Refusal.{Refusal}
-use Rattle.ccp_run.specs.declared.refusal.Refusal.TheVariants.{TooLong}
 use Rattle.ccp_run.specs.Attempts.{RefusesAny}
 use Rattle.ccp_run.specs.DriveEnds.{AnswersDrive, RefusesDrive, IsDriveEnd, ReportsDrive}
 use Rattle.ccp_run.specs.DriveInputs.{drive_written, drive_refusal}
-use Rattle.ccp_run.specs.Endings.{Refuses}
 use Rattle.ccp_run.specs.Run.{IsRun, WritesAnswers, WritesSomeAnswers}
-use Rattle.ccp_run.specs.Streams.{StreamChange}
 use Rattle.ccp_run.proofs.RunLemmas.{is_three, ends_done, ends_refused, ends_unread, ends_unwritten, ends_wanting}
 
 module _ (source sink errors : StreamChange) (is_finished : Type 0) (outcome : Outcome) where

@@ -17,12 +17,12 @@ use Rattle.driven_flow.specs.Front.{divided}
 use Rattle.driven_flow.proofs.FrontLineLemmas.{divided-goes-on}
 use Rattle.driven_flow.specs.Session.{SessionState, opening}
 use Rattle.driven_flow.proofs.DrivenLiftLemmas.{reads-alike}
+use Rattle.run_ending.specs.declared.refusal.Limit.TheVariants.{Audit}
+use Rattle.run_ending.specs.declared.refusal.Refusal.{Refusal}
+use Rattle.run_ending.specs.declared.refusal.Refusal.TheVariants.{TooLong, Frame}
+use Rattle.run_ending.specs.declared.stop.Stop.{Stop}
+use Rattle.run_ending.specs.declared.stop.Stop.TheVariants as stop
 use Rattle.ccp_run.specs.declared.modes.drive.Opened.{Opened}
-use Rattle.ccp_run.specs.declared.refusal.Limit.TheVariants.{Audit}
-use Rattle.ccp_run.specs.declared.refusal.Refusal.{Refusal}
-use Rattle.ccp_run.specs.declared.refusal.Refusal.TheVariants.{TooLong, Frame}
-use Rattle.ccp_run.specs.declared.stop.Stop.{Stop}
-use Rattle.ccp_run.specs.declared.stop.Stop.TheVariants as stop
 use Rattle.ccp_run.specs.Drive.{IsDriven}
 use Rattle.ccp_run.specs.DriveEnds.{AnswersDrive, AllowsDrive, IsDriveEnd, OpensDrive, StopsOpening, IsSessionEnd, end_at, end_in}
 use Rattle.ccp_run.specs.DriveInputs.{divided_at, beginning_of, codes_from, begun, driven_by, driving, written_in, drive_written, end_refusal, refusal_in, drive_refusal, IsOpenAt, IsOpenDrive, flows_in, driven_flows}

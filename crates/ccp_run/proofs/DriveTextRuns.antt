@@ -8,21 +8,21 @@ use Rattle.feed_core.specs.declared.ending.FeedEnd.TheVariants as ends
 use Rattle.feed_core.specs.FeedEnds.{Stream, stream}
 use Rattle.driven_flow.specs.Driven.{codes_of}
 use Rattle.driven_flow.specs.Session.{SessionState, opening}
+use Rattle.run_ending.specs.declared.outcome.ModeOutput.{ModeOutput}
+use Rattle.run_ending.specs.declared.refusal.Limit.TheVariants.{Audit}
+use Rattle.run_ending.specs.declared.refusal.Refusal.{Refusal}
+use Rattle.run_ending.specs.declared.refusal.Refusal.TheVariants.{TooLong}
+use Rattle.run_ending.specs.declared.stop.Stop.{Stop}
+use Rattle.run_ending.specs.declared.stop.Stop.TheVariants as stop
+use Rattle.run_ending.specs.Streams.{StreamChange}
 use Rattle.ccp_run.specs.declared.drive_end.DriveEnd.TheVariants as drive
 use Rattle.ccp_run.specs.declared.modes.drive.Opened.{Opened}
-use Rattle.ccp_run.specs.declared.outcome.ModeOutput.{ModeOutput}
-use Rattle.ccp_run.specs.declared.refusal.Limit.TheVariants.{Audit}
-use Rattle.ccp_run.specs.declared.refusal.Refusal.{Refusal}
-use Rattle.ccp_run.specs.declared.refusal.Refusal.TheVariants.{TooLong}
-use Rattle.ccp_run.specs.declared.stop.Stop.{Stop}
-use Rattle.ccp_run.specs.declared.stop.Stop.TheVariants as stop
 use Rattle.ccp_run.specs.Attempts.{RefusesAny}
 use Rattle.ccp_run.specs.Drive.{IsDriven, drive_text}
 use Rattle.ccp_run.specs.DriveInputs.{drive_refusal, driven_by, driven_flows}
 use Rattle.ccp_run.specs.DriveEnds.{RefusesDrive, IsDriveEnd, IsSessionEnd, OpensDrive, end_at, end_in}
 use Rattle.ccp_run.specs.DriveTexts.{AreOf, IsHeardOut, IsStreamAttempt, IsTextMade, MakesText, RefusesStream}
 use Rattle.ccp_run.specs.Modes.{Task, Driven}
-use Rattle.ccp_run.specs.Streams.{StreamChange}
 use Rattle.ccp_run.proofs.DriveRuns.{drive-ends, flows-are, input-is, within-none}
 use Rattle.ccp_run.proofs.DriveSessions.{IsSessionOf, frames-hold, opening-holds}
 

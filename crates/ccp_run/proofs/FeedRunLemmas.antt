@@ -9,17 +9,17 @@ use Rattle.feed_core.specs.FeedEnds.{answers_written, IsFed, AnswersInput}
 use Rattle.feed_core.specs.FeedEnds.{Stream as Frames, stream as frames}
 use Rattle.feed_core.specs.FeedLacks.{FeedLacksAt}
 use Rattle.ccp_words.specs.declared.mode.Alone.TheVariants.{Feed}
+use Rattle.run_ending.specs.declared.outcome.ModeOutput.{ModeOutput}
+use Rattle.run_ending.specs.declared.outcome.Outcome.{Outcome}
+use Rattle.run_ending.specs.declared.refusal.Limit.TheVariants.{Input}
+use Rattle.run_ending.specs.declared.refusal.Refusal.{Refusal}
+use Rattle.run_ending.specs.declared.refusal.Refusal.TheVariants.{TooLong, Frame, FrameCut}
+use Rattle.run_ending.specs.Endings.{Refuses}
+use Rattle.run_ending.specs.Streams.{StreamChange}
 use Rattle.ccp_run.specs.Modes.{Alone}
-use Rattle.ccp_run.specs.declared.outcome.ModeOutput.{ModeOutput}
-use Rattle.ccp_run.specs.declared.outcome.Outcome.{Outcome}
-use Rattle.ccp_run.specs.declared.refusal.Limit.TheVariants.{Input}
-use Rattle.ccp_run.specs.declared.refusal.Refusal.{Refusal}
-use Rattle.ccp_run.specs.declared.refusal.Refusal.TheVariants.{TooLong, Frame, FrameCut}
 use Rattle.ccp_run.specs.Attempts.{RefusesAny}
-use Rattle.ccp_run.specs.Endings.{Refuses}
 use Rattle.ccp_run.specs.FeedEndings.{EndsFeed}
 use Rattle.ccp_run.specs.Run.{IsRun, WritesAnswers, WritesSomeAnswers}
-use Rattle.ccp_run.specs.Streams.{StreamChange}
 use Rattle.ccp_run.proofs.RunLemmas.{is_three, one_more, ends_done, ends_refused, ends_unread, ends_unwritten, ends_wanting}
 
 module _ (source sink errors : StreamChange) (is_finished : Type 0) (outcome : Outcome) where

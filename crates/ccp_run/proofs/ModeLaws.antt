@@ -1,9 +1,9 @@
 -- What the theorem asks of each mode's rules, which a mode that reads its input to the end mostly has at once.
 use Rattle.std.proofs.Common.{◌≡◌, ◌∙◌, ◌⊎◌, refl, sym, false, Option, Some, None, List, ℕ, [], true≢false}
 use Rattle.std.proofs.lemmas.Option.{same_Some, none-some}
-use Rattle.ccp_run.specs.declared.outcome.ModeOutput.{ModeOutput}
-use Rattle.ccp_run.specs.declared.refusal.Limit.{Limit}
-use Rattle.ccp_run.specs.declared.refusal.Refusal.{Refusal}
+use Rattle.run_ending.specs.declared.outcome.ModeOutput.{ModeOutput}
+use Rattle.run_ending.specs.declared.refusal.Limit.{Limit}
+use Rattle.run_ending.specs.declared.refusal.Refusal.{Refusal}
 use Rattle.ccp_run.specs.Rules.{Rules, reads_whole}
 use Rattle.ccp_run.specs.Settled.{IsSettledBy}
 

@@ -1,12 +1,12 @@
 -- The result of a task, from how its source was read and what the bytes give.
 use Rattle.std.proofs.Common.{◌≡◌, ℕ, Bool, true, false, Result, Ok, Err, List, inl, inr}
 use Rattle.ccp_base.specs.Outside.{no_memory}
-use Rattle.ccp_run.specs.declared.outcome.ModeOutput.{ModeOutput}
-use Rattle.ccp_run.specs.declared.stop.Stop.{Stop}
-use Rattle.ccp_run.specs.declared.stop.Stop.TheVariants as stop
+use Rattle.run_ending.specs.declared.outcome.ModeOutput.{ModeOutput}
+use Rattle.run_ending.specs.declared.stop.Stop.{Stop}
+use Rattle.run_ending.specs.declared.stop.Stop.TheVariants as stop
+use Rattle.run_ending.specs.Streams.{StreamChange, ReadsToEnd, HasInput}
 use Rattle.ccp_run.specs.Attempts.{IsOutputOrRefusal, IsAttempt, IsReadWithin}
 use Rattle.ccp_run.specs.Modes.{Task, limit_in, is_read}
-use Rattle.ccp_run.specs.Streams.{StreamChange, ReadsToEnd, HasInput}
 use Rattle.ccp_run.proofs.RunLemmas.{is_left}
 
 has_input : (read : Bool) (source : StreamChange) (bytes : List ℕ) → read ≡ true → ReadsToEnd source bytes → HasInput read source bytes

@@ -2,22 +2,22 @@
 use Rattle.std.proofs.Common.{◌≡◌, ◌≢◌, ◌≤◌, ◌⊎◌, inl, inr, ◌∙◌, ℕ, zero, suc, ◌+◌, Bool, true, false, subst, Some, None, Result, Ok, Err, List, [], length, arith, ap, sym, refl, append-nil}
 use Rattle.ccp_base.specs.Outside.{Known, Rose, Takes, TakesWithin, Appends, no_memory}
 use Rattle.feed_core.specs.FeedEnds.{AreHandedOn}
-use Rattle.ccp_run.specs.declared.outcome.ModeOutput.{ModeOutput}
-use Rattle.ccp_run.specs.declared.outcome.Outcome.{Outcome}
-use Rattle.ccp_run.specs.declared.refusal.Refusal.{Refusal}
-use Rattle.ccp_run.specs.declared.refusal.Refusal.TheVariants.{TooLong}
-use Rattle.ccp_run.specs.declared.status.Status.{Status}
-use Rattle.ccp_run.specs.declared.status.Status.TheVariants as status
-use Rattle.ccp_run.specs.declared.stop.Stop.{Stop}
-use Rattle.ccp_run.specs.declared.stop.Stop.TheVariants as stop
+use Rattle.run_ending.specs.declared.outcome.ModeOutput.{ModeOutput}
+use Rattle.run_ending.specs.declared.outcome.Outcome.{Outcome}
+use Rattle.run_ending.specs.declared.refusal.Refusal.{Refusal}
+use Rattle.run_ending.specs.declared.refusal.Refusal.TheVariants.{TooLong}
+use Rattle.run_ending.specs.declared.status.Status.{Status}
+use Rattle.run_ending.specs.declared.status.Status.TheVariants as status
+use Rattle.run_ending.specs.declared.stop.Stop.{Stop}
+use Rattle.run_ending.specs.declared.stop.Stop.TheVariants as stop
+use Rattle.run_ending.specs.Endings.{Ends, IsEnding, Writes, WritesAll, Refuses}
+use Rattle.run_ending.specs.ErrorLine.{refusal_line}
+use Rattle.run_ending.specs.Statuses.{status_number, read_line, write_line, memory_line}
+use Rattle.run_ending.specs.Streams.{StreamChange, HasInput, IsLeft, IsUntouched}
 use Rattle.ccp_run.specs.Attempts.{IsAttempt, MakesOutput, RefusesInput, RefusesAny, FailsToRead, StopsWithoutMemory}
 use Rattle.ccp_run.specs.DriveTexts.{IsStreamAttempt, RefusesStream}
-use Rattle.ccp_run.specs.Endings.{Ends, IsEnding, Writes, WritesAll, Refuses}
-use Rattle.ccp_run.specs.ErrorLine.{refusal_line}
 use Rattle.ccp_run.specs.Modes.{Task, limit_in, limit_of, is_read, is_stream, is_answered, answers_before}
 use Rattle.ccp_run.specs.Run.{EndsWith, IsReadFailed, IsRun, WritesFront, WritesAnyFront, WritesAnswers, WritesSomeAnswers}
-use Rattle.ccp_run.specs.Statuses.{status_number, read_line, write_line, memory_line}
-use Rattle.ccp_run.specs.Streams.{StreamChange, HasInput, IsLeft, IsUntouched}
 use Rattle.ccp_run.proofs.WorkerModes.{is_mode}
 
 appends_nothing : (old new : Known) → new ≡ old → Appends old new []

@@ -5,15 +5,16 @@ use Rattle.reg_compiler.specs.declared.built.Built.{Built}
 use Rattle.flow_core.specs.declared.case.Case.{Case}
 use Rattle.scene_members.specs.declared.mode.SceneMode.{SceneMode}
 use Rattle.scenario_json.specs.Scene.{scene_of}
-use Rattle.scenario_json.specs.declared.fault.SceneFault.{SceneFault}
-use Rattle.scenario_json.specs.declared.fault.SceneFault.TheVariants as scene
-use Rattle.ccp_run.specs.declared.outcome.ModeOutput.{ModeOutput}
-use Rattle.ccp_run.specs.declared.refusal.Limit.TheVariants.{Input}
-use Rattle.ccp_run.specs.declared.refusal.Refusal.{Refusal}
-use Rattle.ccp_run.specs.declared.refusal.Refusal.TheVariants.{TooLong, NoSeparator, Program, Line, TooManyAcks, Scene as SceneRefused, Frame, FrameCut}
-use Rattle.ccp_run.specs.declared.stop.Stop.{Stop}
+use Rattle.scene_faults.specs.declared.fault.SceneFault.{SceneFault}
+use Rattle.scene_faults.specs.declared.fault.SceneFault.TheVariants as scene
+use Rattle.run_ending.specs.declared.outcome.ModeOutput.{ModeOutput}
+use Rattle.run_ending.specs.declared.refusal.Limit.TheVariants.{Input}
+use Rattle.run_ending.specs.declared.refusal.Refusal.{Refusal}
+use Rattle.run_ending.specs.declared.refusal.Refusal.TheVariants.{TooLong, NoSeparator, Program, Line, TooManyAcks, Scene as SceneRefused, Frame, FrameCut}
+use Rattle.run_ending.specs.declared.stop.Stop.{Stop}
+use Rattle.run_ending.specs.SceneStops.{scene_stop}
 use Rattle.ccp_run.specs.Rules.{Rules, reads_whole}
-use Rattle.ccp_run.specs.Scenes.{IsOfScene, SaysSomething, StopsFor, scene_stop, IsScenario, IsSceneOutput, Telling, scene_rules}
+use Rattle.ccp_run.specs.Scenes.{IsOfScene, SaysSomething, StopsFor, IsScenario, IsSceneOutput, Telling, scene_rules}
 use Rattle.ccp_run.proofs.ModeLaws.{IsMode, reads_to_end, settled_by}
 
 -- ---- why there is no scenario

@@ -9,7 +9,7 @@ use Rattle.campaign_gate.specs.CampaignBooks.{acks_read}
 use Rattle.campaign_report.specs.AcksText.{acks_text}
 use Rattle.scene_members.specs.declared.mode.SceneMode.TheVariants as scene
 use Rattle.scenario_json.specs.Cases.{case_names}
-use Rattle.ccp_run.specs.declared.outcome.ModeOutput.{ModeOutput}
+use Rattle.run_ending.specs.declared.outcome.ModeOutput.{ModeOutput}
 use Rattle.ccp_run.specs.Campaign.{case_agents}
 use Rattle.ccp_run.specs.Rules.{Rules}
 use Rattle.ccp_run.specs.Scenes.{IsSceneOutput, scene_rules}

@@ -1,15 +1,15 @@
 -- A mode's outcome before anything is written: its output, or why there is none.
 use Rattle.std.specs.Prelude.{◌≡◌, ◌≤◌, ◌⊎◌, ℕ, ◌+◌, Bool, true, false, Result, Ok, Err, List, ◌++◌, length}
 use Rattle.ccp_base.specs.Outside.{Rose, Takes, TakesOver, TakesWithin}
-use Rattle.ccp_run.specs.declared.outcome.ModeOutput.{ModeOutput}
-use Rattle.ccp_run.specs.declared.refusal.Limit.{Limit}
-use Rattle.ccp_run.specs.declared.refusal.Refusal.{Refusal}
-use Rattle.ccp_run.specs.declared.refusal.Refusal.TheVariants.{TooLong}
-use Rattle.ccp_run.specs.declared.stop.Stop.{Stop}
-use Rattle.ccp_run.specs.declared.stop.Stop.TheVariants as stop
-use Rattle.ccp_run.specs.ErrorLine.{most_bytes}
+use Rattle.run_ending.specs.declared.outcome.ModeOutput.{ModeOutput}
+use Rattle.run_ending.specs.declared.refusal.Limit.{Limit}
+use Rattle.run_ending.specs.declared.refusal.Refusal.{Refusal}
+use Rattle.run_ending.specs.declared.refusal.Refusal.TheVariants.{TooLong}
+use Rattle.run_ending.specs.declared.stop.Stop.{Stop}
+use Rattle.run_ending.specs.declared.stop.Stop.TheVariants as stop
+use Rattle.run_ending.specs.ErrorLine.{most_bytes}
+use Rattle.run_ending.specs.Streams.{StreamChange, ReadsToEnd, HasInput, IsLeft}
 use Rattle.ccp_run.specs.Modes.{Task, limit_in, limit_of, is_read, IsMade, IsInputRefusal}
-use Rattle.ccp_run.specs.Streams.{StreamChange, ReadsToEnd, HasInput, IsLeft}
 
 -- the mode's output for bytes, or the first refusal of these
 abbrev pub IsOutputOrRefusal : Task → List ℕ → Result ModeOutput Stop → Type 0

@@ -4,18 +4,18 @@ use Rattle.ccp_base.specs.Text.{◌⧺◌}
 use Rattle.reg_compiler.specs.declared.built.Built.{Built}
 use Rattle.flow_core.specs.declared.case.Case.{Case}
 use Rattle.fold_run.specs.Separated.{Cut, cut_of}
-use Rattle.scenario_json.specs.declared.fault.SceneFault.{SceneFault}
+use Rattle.scene_faults.specs.declared.fault.SceneFault.{SceneFault}
 use Rattle.scene_members.specs.declared.mode.SceneMode.TheVariants as scene
 use Rattle.scenario_json.specs.Scene.{Scene}
 use Rattle.reg_compiler.specs.Sources.{sources_of}
 use Rattle.run_audit.specs.declared.verdict.Verdict.{Verdict}
 use Rattle.run_audit.specs.declared.verdict.Verdict.TheVariants.{Yes, No}
 use Rattle.run_audit.specs.Audit.{IsVerdict}
-use Rattle.ccp_run.specs.declared.outcome.ModeOutput.{ModeOutput}
-use Rattle.ccp_run.specs.declared.refusal.Limit.TheVariants as limit
-use Rattle.ccp_run.specs.declared.refusal.Refusal.{Refusal}
-use Rattle.ccp_run.specs.declared.refusal.Refusal.TheVariants as refusal
-use Rattle.ccp_run.specs.ErrorLine.{most_bytes}
+use Rattle.run_ending.specs.declared.outcome.ModeOutput.{ModeOutput}
+use Rattle.run_ending.specs.declared.refusal.Limit.TheVariants as limit
+use Rattle.run_ending.specs.declared.refusal.Refusal.{Refusal}
+use Rattle.run_ending.specs.declared.refusal.Refusal.TheVariants as refusal
+use Rattle.run_ending.specs.ErrorLine.{most_bytes}
 use Rattle.ccp_run.specs.Rules.{Rules, reads_whole}
 use Rattle.ccp_run.specs.Scenes.{Says, IsScenario, IsNoScenario}
 

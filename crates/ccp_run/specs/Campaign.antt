@@ -12,7 +12,7 @@ use Rattle.campaign_report.specs.TableText.{table_text}
 use Rattle.campaign_report.specs.WireText.{wire_text}
 use Rattle.scene_members.specs.declared.mode.SceneMode.TheVariants as scene
 use Rattle.scenario_json.specs.Cases.{case_names}
-use Rattle.ccp_run.specs.declared.outcome.ModeOutput.{ModeOutput}
+use Rattle.run_ending.specs.declared.outcome.ModeOutput.{ModeOutput}
 use Rattle.ccp_run.specs.Rules.{Rules}
 use Rattle.ccp_run.specs.Scenes.{IsSceneOutput, scene_rules}
 

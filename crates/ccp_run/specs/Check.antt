@@ -6,12 +6,12 @@ use Rattle.reg_compiler.specs.declared.built.Built.{Built}
 use Rattle.reg_compiler.specs.Counts.{lean}
 use Rattle.portus_build.specs.Texts.{IsBuiltFrom, IsNoProgram}
 use Rattle.campaign_report.specs.CheckText.{check_text}
-use Rattle.ccp_run.specs.declared.outcome.ModeOutput.{ModeOutput}
-use Rattle.ccp_run.specs.declared.refusal.Limit.TheVariants.{Input}
-use Rattle.ccp_run.specs.declared.refusal.Refusal.{Refusal}
-use Rattle.ccp_run.specs.declared.refusal.Refusal.TheVariants.{Program}
-use Rattle.ccp_run.specs.declared.stop.Stop.{Stop}
-use Rattle.ccp_run.specs.declared.stop.Stop.TheVariants as stop
+use Rattle.run_ending.specs.declared.outcome.ModeOutput.{ModeOutput}
+use Rattle.run_ending.specs.declared.refusal.Limit.TheVariants.{Input}
+use Rattle.run_ending.specs.declared.refusal.Refusal.{Refusal}
+use Rattle.run_ending.specs.declared.refusal.Refusal.TheVariants.{Program}
+use Rattle.run_ending.specs.declared.stop.Stop.{Stop}
+use Rattle.run_ending.specs.declared.stop.Stop.TheVariants as stop
 use Rattle.ccp_run.specs.Rules.{Rules, reads_whole}
 
 -- the input is a program's text, the program has this code, of at most its lean count of instructions, and the output

@@ -1,14 +1,14 @@
 -- What decides whether a run refuses its input, if the source shows its bytes.
 use Rattle.std.specs.Prelude.{◌≡◌, ◌≤◌, ◌<◌, ◌⊎◌, List, ℕ, true, Some, length}
 use Rattle.ccp_base.specs.Outside.{Rose, no_memory}
-use Rattle.ccp_run.specs.declared.outcome.Outcome.{Outcome}
-use Rattle.ccp_run.specs.declared.refusal.Refusal.{Refusal}
-use Rattle.ccp_run.specs.declared.status.Status.{Status}
-use Rattle.ccp_run.specs.declared.status.Status.TheVariants as status
+use Rattle.run_ending.specs.declared.outcome.Outcome.{Outcome}
+use Rattle.run_ending.specs.declared.refusal.Refusal.{Refusal}
+use Rattle.run_ending.specs.declared.status.Status.{Status}
+use Rattle.run_ending.specs.declared.status.Status.TheVariants as status
+use Rattle.run_ending.specs.Statuses.{status_number}
+use Rattle.run_ending.specs.Streams.{StreamChange}
 use Rattle.ccp_run.specs.Modes.{Task, limit_of, is_read, is_answered, IsInput, IsInputRefusal}
 use Rattle.ccp_run.specs.Run.{IsRun}
-use Rattle.ccp_run.specs.Statuses.{status_number}
-use Rattle.ccp_run.specs.Streams.{StreamChange}
 
 -- the run ended so, or out of memory
 abbrev pub EndsAs : Status → Outcome → Type 0

@@ -17,9 +17,9 @@ use Rattle.scene_core.specs.CompiledPrograms.{AreCompiled}
 use Rattle.scene_members.specs.declared.mode.SceneMode.TheVariants.{Driven}
 use Rattle.ccp_words.specs.declared.mode.DriveText.{DriveText}
 use Rattle.ccp_words.specs.declared.mode.DriveText.TheVariants as shown
-use Rattle.ccp_run.specs.declared.outcome.ModeOutput.{ModeOutput}
-use Rattle.ccp_run.specs.declared.refusal.Limit.TheVariants.{Audit}
-use Rattle.ccp_run.specs.declared.refusal.Refusal.{Refusal}
+use Rattle.run_ending.specs.declared.outcome.ModeOutput.{ModeOutput}
+use Rattle.run_ending.specs.declared.refusal.Limit.TheVariants.{Audit}
+use Rattle.run_ending.specs.declared.refusal.Refusal.{Refusal}
 use Rattle.ccp_run.specs.Campaign.{frames_shown}
 use Rattle.ccp_run.specs.DriveInputs.{drive_refusal, drive_written, driven_flows, IsOpenDrive}
 use Rattle.ccp_run.specs.Rules.{Rules}

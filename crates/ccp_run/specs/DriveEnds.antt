@@ -17,23 +17,23 @@ use Rattle.driven_flow.specs.declared.front.FrontFault.TheVariants as fault
 use Rattle.driven_flow.specs.DrivenCases.{driven_case}
 use Rattle.driven_flow.specs.Front.{divided}
 use Rattle.driven_flow.specs.Session.{SessionState, hear}
+use Rattle.run_ending.specs.declared.outcome.Outcome.{Outcome}
+use Rattle.run_ending.specs.declared.refusal.Limit.TheVariants.{Input, Audit}
+use Rattle.run_ending.specs.declared.refusal.Refusal.{Refusal}
+use Rattle.run_ending.specs.declared.refusal.Refusal.TheVariants.{TooLong, NoSeparator, Frame, FrameCut}
+use Rattle.run_ending.specs.declared.status.Status.TheVariants as status
+use Rattle.run_ending.specs.declared.stop.Stop.{Stop}
+use Rattle.run_ending.specs.declared.stop.Stop.TheVariants as stop
+use Rattle.run_ending.specs.Endings.{Ends, Refuses}
+use Rattle.run_ending.specs.Statuses.{read_line, write_line, memory_line}
+use Rattle.run_ending.specs.Streams.{StreamChange}
 use Rattle.ccp_run.specs.declared.drive_end.DriveEnd.{DriveEnd}
 use Rattle.ccp_run.specs.declared.drive_end.DriveEnd.TheVariants as end
 use Rattle.ccp_run.specs.declared.modes.drive.Opened.{Opened}
-use Rattle.ccp_run.specs.declared.outcome.Outcome.{Outcome}
-use Rattle.ccp_run.specs.declared.refusal.Limit.TheVariants.{Input, Audit}
-use Rattle.ccp_run.specs.declared.refusal.Refusal.{Refusal}
-use Rattle.ccp_run.specs.declared.refusal.Refusal.TheVariants.{TooLong, NoSeparator, Frame, FrameCut}
-use Rattle.ccp_run.specs.declared.status.Status.TheVariants as status
-use Rattle.ccp_run.specs.declared.stop.Stop.{Stop}
-use Rattle.ccp_run.specs.declared.stop.Stop.TheVariants as stop
 use Rattle.ccp_run.specs.Drive.{IsDriven}
 use Rattle.ccp_run.specs.DriveInputs.{drive_refusal, drive_written, driven_by, IsOpenDrive}
-use Rattle.ccp_run.specs.Endings.{Ends, Refuses}
 use Rattle.ccp_run.specs.FeedEndings.{EndsWhole}
 use Rattle.ccp_run.specs.Scenes.{IsScenario}
-use Rattle.ccp_run.specs.Statuses.{read_line, write_line, memory_line}
-use Rattle.ccp_run.specs.Streams.{StreamChange}
 
 -- ---- a whole input
 

@@ -14,13 +14,13 @@ use Rattle.driven_flow.specs.Driven.{Codes, DrivenState}
 use Rattle.driven_flow.specs.Front.{divided, IsOpen}
 use Rattle.driven_flow.specs.Session.{SessionState, opening, first_frame, hear, waits}
 use Rattle.scene_members.specs.declared.mode.SceneMode.TheVariants.{Driven}
-use Rattle.scenario_json.specs.declared.fault.SceneFault.{SceneFault}
+use Rattle.scene_faults.specs.declared.fault.SceneFault.{SceneFault}
 use Rattle.scenario_json.specs.Scene.{Scene, scene_of}
+use Rattle.run_ending.specs.declared.refusal.Limit.TheVariants.{Input, Audit}
+use Rattle.run_ending.specs.declared.refusal.Refusal.{Refusal}
+use Rattle.run_ending.specs.declared.refusal.Refusal.TheVariants.{TooLong, NoSeparator, Frame, FrameCut}
+use Rattle.run_ending.specs.declared.refusal.Refusal.TheVariants as refusal
 use Rattle.ccp_run.specs.PlannedCases.{planned_cases}
-use Rattle.ccp_run.specs.declared.refusal.Limit.TheVariants.{Input, Audit}
-use Rattle.ccp_run.specs.declared.refusal.Refusal.{Refusal}
-use Rattle.ccp_run.specs.declared.refusal.Refusal.TheVariants.{TooLong, NoSeparator, Frame, FrameCut}
-use Rattle.ccp_run.specs.declared.refusal.Refusal.TheVariants as refusal
 
 -- ---- how an input begins
 

@@ -10,19 +10,19 @@ use Rattle.driven_flow.specs.Session.{SessionState, opening}
 use Rattle.feed_core.specs.declared.ending.FeedEnd.{FeedEnd}
 use Rattle.feed_core.specs.declared.ending.FeedEnd.TheVariants as ends
 use Rattle.feed_core.specs.FeedEnds.{Stream}
+use Rattle.run_ending.specs.declared.outcome.ModeOutput.{ModeOutput}
+use Rattle.run_ending.specs.declared.refusal.Refusal.{Refusal}
+use Rattle.run_ending.specs.declared.refusal.Refusal.TheVariants.{TooLong}
+use Rattle.run_ending.specs.declared.stop.Stop.{Stop}
+use Rattle.run_ending.specs.declared.stop.Stop.TheVariants as stop
+use Rattle.run_ending.specs.Streams.{StreamChange}
 use Rattle.ccp_run.specs.declared.modes.drive.Opened.{Opened}
-use Rattle.ccp_run.specs.declared.outcome.ModeOutput.{ModeOutput}
-use Rattle.ccp_run.specs.declared.refusal.Refusal.{Refusal}
-use Rattle.ccp_run.specs.declared.refusal.Refusal.TheVariants.{TooLong}
-use Rattle.ccp_run.specs.declared.stop.Stop.{Stop}
-use Rattle.ccp_run.specs.declared.stop.Stop.TheVariants as stop
 use Rattle.ccp_run.specs.Attempts.{MakesOutput, RefusesAny}
 use Rattle.ccp_run.specs.Modes.{Task, limit_in, limit_of, is_stream, GoesOn}
 use Rattle.ccp_run.specs.DriveEnds.{IsSessionEnd, IsFlowsEnd, end_at, end_in}
 use Rattle.campaign_report.specs.AcksText.{flows_text}
 use Rattle.live_lines.specs.FlowLabels.{own}
 use Rattle.ccp_run.specs.Drive.{drive_text, flow_acks, flow_names}
-use Rattle.ccp_run.specs.Streams.{StreamChange}
 
 -- the flow has the codes of these programs, and so have all of these flows
 abbrev pub IsOf : List (ℕ × Built) → DrivenState → Type 0

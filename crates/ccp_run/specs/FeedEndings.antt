@@ -3,13 +3,13 @@ use Rattle.std.specs.Prelude.{◌≡◌, []}
 use Rattle.ccp_base.specs.Outside.{no_memory}
 use Rattle.feed_core.specs.declared.ending.FeedEnd.{FeedEnd}
 use Rattle.feed_core.specs.declared.ending.FeedEnd.TheVariants as ends
-use Rattle.ccp_run.specs.declared.outcome.Outcome.{Outcome}
-use Rattle.ccp_run.specs.declared.refusal.Limit.TheVariants.{Input}
-use Rattle.ccp_run.specs.declared.refusal.Refusal.TheVariants.{TooLong, Frame, FrameCut}
-use Rattle.ccp_run.specs.declared.status.Status.TheVariants as status
-use Rattle.ccp_run.specs.Endings.{Ends, Refuses}
-use Rattle.ccp_run.specs.Statuses.{status_number, read_line, write_line, memory_line}
-use Rattle.ccp_run.specs.Streams.{StreamChange}
+use Rattle.run_ending.specs.declared.outcome.Outcome.{Outcome}
+use Rattle.run_ending.specs.declared.refusal.Limit.TheVariants.{Input}
+use Rattle.run_ending.specs.declared.refusal.Refusal.TheVariants.{TooLong, Frame, FrameCut}
+use Rattle.run_ending.specs.declared.status.Status.TheVariants as status
+use Rattle.run_ending.specs.Endings.{Ends, Refuses}
+use Rattle.run_ending.specs.Statuses.{status_number, read_line, write_line, memory_line}
+use Rattle.run_ending.specs.Streams.{StreamChange}
 
 -- nothing was reported, and nothing is kept
 pub record EndsWhole (errors : StreamChange) (outcome : Outcome) : Type 0 where

@@ -19,10 +19,10 @@ use Rattle.fold_run.specs.Acknowledgements.{acks_of_lines}
 use Rattle.fold_run.specs.Fold.{fold_reports, fold_fault, fold_end}
 use Rattle.fold_run.specs.Ran.{ran_of}
 use Rattle.fold_run.specs.Separated.{Cut, cut_of}
-use Rattle.ccp_run.specs.declared.outcome.ModeOutput.{ModeOutput}
-use Rattle.ccp_run.specs.declared.refusal.Limit.TheVariants.{Input}
-use Rattle.ccp_run.specs.declared.refusal.Refusal.{Refusal}
-use Rattle.ccp_run.specs.declared.refusal.Refusal.TheVariants.{TooLong, NoSeparator, Program, Line, TooManyAcks, Scene, Frame, FrameCut}
+use Rattle.run_ending.specs.declared.outcome.ModeOutput.{ModeOutput}
+use Rattle.run_ending.specs.declared.refusal.Limit.TheVariants.{Input}
+use Rattle.run_ending.specs.declared.refusal.Refusal.{Refusal}
+use Rattle.run_ending.specs.declared.refusal.Refusal.TheVariants.{TooLong, NoSeparator, Program, Line, TooManyAcks, Scene, Frame, FrameCut}
 use Rattle.ccp_run.specs.Rules.{Rules, reads_whole}
 
 -- the acknowledgements of what stands below the separator, or the first fault among its lines

@@ -1,10 +1,7 @@
 -- The definitions of ccp_run, a file each.
 
--- those that contracts of public calls cite: streams and statuses, the rules of each mode, a whole run, and how the
--- reading of an input of `drive` ends
-pub mod Streams
-pub mod Statuses
-pub mod ErrorLine
+-- those that contracts of public calls cite: the rules of each mode, a whole run, and how the reading of an input of
+-- `drive` ends
 pub mod Rules
 pub mod Check
 pub mod Fold
@@ -32,9 +29,8 @@ pub mod FeedLaws
 pub mod SharedLaws
 pub mod DriveLaws
 pub mod Tool
--- of these two, the contract of a run cites `MakesOutput` and `RefusesAny`, `Ends` and `WritesAll`; the rest, and the
--- files after them, only private contracts and proofs cite
+-- of this one, the contract of a run cites `MakesOutput` and `RefusesAny`; the rest, and the files after it, only
+-- private contracts and proofs cite
 pub mod Attempts
-pub mod Endings
 pub mod FeedEndings
 pub mod DriveTexts

@@ -10,7 +10,7 @@ use Rattle.flow_core.specs.Words.{legal, is_complete}
 use Rattle.campaign_report.specs.BooksRead.{IsBookRead, read_flow, read_world, flows_of}
 use Rattle.scene_members.specs.declared.mode.SceneMode.TheVariants as scene
 use Rattle.reg_compiler.specs.Sources.{sources_of}
-use Rattle.ccp_run.specs.declared.outcome.ModeOutput.{ModeOutput}
+use Rattle.run_ending.specs.declared.outcome.ModeOutput.{ModeOutput}
 use Rattle.ccp_run.specs.Campaign.{frames_shown}
 use Rattle.ccp_run.specs.Rules.{Rules}
 use Rattle.ccp_run.specs.Scenes.{IsSceneOutput, scene_rules}

@@ -6,10 +6,10 @@ use Rattle.ccp_words.specs.declared.mode.DriveText.{DriveText}
 use Rattle.ccp_words.specs.declared.mode.ToolMode.{ToolMode}
 use Rattle.ccp_words.specs.declared.mode.ToolMode.TheVariants as mode
 use Rattle.ccp_words.specs.declared.words.Asked.{Asked}
-use Rattle.ccp_run.specs.declared.outcome.ModeOutput.{ModeOutput}
-use Rattle.ccp_run.specs.declared.refusal.Limit.{Limit}
-use Rattle.ccp_run.specs.declared.refusal.Refusal.{Refusal}
-use Rattle.ccp_run.specs.ErrorLine.{most_bytes}
+use Rattle.run_ending.specs.declared.outcome.ModeOutput.{ModeOutput}
+use Rattle.run_ending.specs.declared.refusal.Limit.{Limit}
+use Rattle.run_ending.specs.declared.refusal.Refusal.{Refusal}
+use Rattle.run_ending.specs.ErrorLine.{most_bytes}
 use Rattle.ccp_run.specs.Rules.{Rules}
 use Rattle.ccp_run.specs.AcksRuns.{acks_rules}
 use Rattle.ccp_run.specs.AuditRuns.{audit_rules}

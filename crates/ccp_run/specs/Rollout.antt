@@ -1,7 +1,7 @@
 -- What `rollout` makes of its cases, and the inputs that it refuses.
 use Rattle.std.specs.Prelude.{◌≡◌, ℕ, Ok, Err, List, [], map}
 use Rattle.std.specs.List.{All}
-use Rattle.scenario_json.specs.declared.fault.SceneFault.{SceneFault}
+use Rattle.scene_faults.specs.declared.fault.SceneFault.{SceneFault}
 use Rattle.scene_members.specs.declared.open_case.OpenCase.{OpenCase}
 use Rattle.scene_members.specs.OpenCases.{open_plan_of, AreOpenFlowsFrom}
 use Rattle.scene_members.specs.Rollout.{OpenPlan}
@@ -9,9 +9,9 @@ use Rattle.scenario_json.specs.Rollout.{rollout_of}
 use Rattle.live_install.specs.declared.letter.OpenLetter.{OpenLetter}
 use Rattle.live_install.specs.RolloutText.{rollout_text}
 use Rattle.live_install.specs.WholeBooks.{IsHistory}
-use Rattle.ccp_run.specs.declared.outcome.ModeOutput.{ModeOutput}
-use Rattle.ccp_run.specs.declared.refusal.Limit.TheVariants.{Input}
-use Rattle.ccp_run.specs.declared.stop.Stop.{Stop}
+use Rattle.run_ending.specs.declared.outcome.ModeOutput.{ModeOutput}
+use Rattle.run_ending.specs.declared.refusal.Limit.TheVariants.{Input}
+use Rattle.run_ending.specs.declared.stop.Stop.{Stop}
 use Rattle.ccp_run.specs.Rules.{Rules, reads_whole}
 use Rattle.ccp_run.specs.Scenes.{IsOfScene, SaysSomething, StopsFor}
 

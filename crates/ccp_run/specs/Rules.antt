@@ -1,8 +1,8 @@
 -- What a mode says of its inputs: how it takes them, which there are, what it makes of each, and what it refuses.
 use Rattle.std.specs.Prelude.{ℕ, Bool, true, false, List, []}
-use Rattle.ccp_run.specs.declared.outcome.ModeOutput.{ModeOutput}
-use Rattle.ccp_run.specs.declared.refusal.Limit.{Limit}
-use Rattle.ccp_run.specs.declared.refusal.Refusal.{Refusal}
+use Rattle.run_ending.specs.declared.outcome.ModeOutput.{ModeOutput}
+use Rattle.run_ending.specs.declared.refusal.Limit.{Limit}
+use Rattle.run_ending.specs.declared.refusal.Refusal.{Refusal}
 
 pub record Rules : Type 1 where
   -- how long an input may be

@@ -3,17 +3,17 @@ use Rattle.std.specs.Prelude.{◌≡◌, ◌≢◌, ◌≤◌, ℕ, ◌+◌, Boo
 use Rattle.ccp_base.specs.Limits.{most_frame_bytes}
 use Rattle.ccp_base.specs.Outside.{Rose, Takes, TakesWithin, Appends, AppendsPrefix, no_memory}
 use Rattle.feed_core.specs.FeedEnds.{AreHandedOn}
-use Rattle.ccp_run.specs.declared.outcome.ModeOutput.{ModeOutput}
-use Rattle.ccp_run.specs.declared.outcome.Outcome.{Outcome}
-use Rattle.ccp_run.specs.declared.refusal.Refusal.{Refusal}
-use Rattle.ccp_run.specs.declared.status.Status.{Status}
-use Rattle.ccp_run.specs.declared.status.Status.TheVariants as status
+use Rattle.run_ending.specs.declared.outcome.ModeOutput.{ModeOutput}
+use Rattle.run_ending.specs.declared.outcome.Outcome.{Outcome}
+use Rattle.run_ending.specs.declared.refusal.Refusal.{Refusal}
+use Rattle.run_ending.specs.declared.status.Status.{Status}
+use Rattle.run_ending.specs.declared.status.Status.TheVariants as status
+use Rattle.run_ending.specs.Endings.{Ends, WritesAll}
+use Rattle.run_ending.specs.ErrorLine.{refusal_line}
+use Rattle.run_ending.specs.Statuses.{status_number, words_line, read_line, write_line, memory_line}
+use Rattle.run_ending.specs.Streams.{StreamChange, IsLeft, IsUntouched}
 use Rattle.ccp_run.specs.Attempts.{MakesOutput, RefusesAny}
-use Rattle.ccp_run.specs.Endings.{Ends, WritesAll}
-use Rattle.ccp_run.specs.ErrorLine.{refusal_line}
 use Rattle.ccp_run.specs.Modes.{Task, limit_of, is_read, is_stream, is_answered, answers_before, GoesOn}
-use Rattle.ccp_run.specs.Statuses.{status_number, words_line, read_line, write_line, memory_line}
-use Rattle.ccp_run.specs.Streams.{StreamChange, IsLeft, IsUntouched}
 
 -- ---- what was written
 

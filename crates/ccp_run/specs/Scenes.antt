@@ -1,7 +1,6 @@
 -- The inputs of the modes that run scenarios, and what a text that is none is refused for.
 use Rattle.std.specs.Prelude.{◌≡◌, ℕ, Ok, Err, List, map}
 use Rattle.std.specs.List.{All}
-use Rattle.ccp_base.specs.Outside.{no_memory}
 use Rattle.flow_core.specs.declared.case.Case.{Case}
 use Rattle.reg_compiler.specs.declared.built.Built.{Built}
 use Rattle.scene_members.specs.declared.mode.SceneMode.{SceneMode}
@@ -9,14 +8,13 @@ use Rattle.scene_core.specs.CasePlans.{plan_of, AreFlowsFrom}
 use Rattle.scenario_json.specs.Cases.{IsCoded}
 use Rattle.scenario_json.specs.Scene.{Scene, scene_with, scene_of}
 use Rattle.reg_compiler.specs.Sources.{sources_of}
-use Rattle.scenario_json.specs.declared.fault.SceneFault.{SceneFault}
-use Rattle.scenario_json.specs.declared.fault.SceneFault.TheVariants as scene
-use Rattle.ccp_run.specs.declared.outcome.ModeOutput.{ModeOutput}
-use Rattle.ccp_run.specs.declared.refusal.Limit.TheVariants.{Input}
-use Rattle.ccp_run.specs.declared.refusal.Refusal.{Refusal}
-use Rattle.ccp_run.specs.declared.refusal.Refusal.TheVariants as refusal
-use Rattle.ccp_run.specs.declared.stop.Stop.{Stop}
-use Rattle.ccp_run.specs.declared.stop.Stop.TheVariants as stop
+use Rattle.scene_faults.specs.declared.fault.SceneFault.{SceneFault}
+use Rattle.run_ending.specs.declared.outcome.ModeOutput.{ModeOutput}
+use Rattle.run_ending.specs.declared.refusal.Limit.TheVariants.{Input}
+use Rattle.run_ending.specs.declared.refusal.Refusal.{Refusal}
+use Rattle.run_ending.specs.declared.refusal.Refusal.TheVariants as refusal
+use Rattle.run_ending.specs.declared.stop.Stop.{Stop}
+use Rattle.run_ending.specs.declared.stop.Stop.TheVariants as stop
 use Rattle.ccp_run.specs.Rules.{Rules, reads_whole}
 
 -- bytes are a scenario's text, which says this
@@ -44,11 +42,6 @@ abbrev pub StopsFor : (SceneFault → Type 0) → Stop → Type 0
 StopsFor has (stop.Refused refusal) = IsOfScene has refusal
 StopsFor has stop.ReadFailed = ⊥
 StopsFor has (stop.NoMemory _) = Unit {0}
-
--- why a mode has no output, if its text is no scenario for this fault
-abbrev pub scene_stop : SceneFault → Stop
-scene_stop (scene.NoMemory _) = stop.NoMemory no_memory
-scene_stop fault = stop.Refused (refusal.Scene fault)
 
 -- bytes are no scenario's text, and this is the first fault
 abbrev pub HasFault : SceneMode → List ℕ → SceneFault → Type 0

@@ -1,7 +1,7 @@
 -- Each input is one of its mode's, or has one first refusal, and not both.
 use Rattle.std.specs.Prelude.{◌≡◌, ◌⊎◌, List, ℕ}
-use Rattle.ccp_run.specs.declared.outcome.ModeOutput.{ModeOutput}
-use Rattle.ccp_run.specs.declared.refusal.Refusal.{Refusal}
+use Rattle.run_ending.specs.declared.outcome.ModeOutput.{ModeOutput}
+use Rattle.run_ending.specs.declared.refusal.Refusal.{Refusal}
 use Rattle.ccp_run.specs.Modes.{Task, rules_of}
 use Rattle.ccp_run.specs.Rules.{Rules}
 

@@ -6,7 +6,7 @@ use Rattle.campaign_report.specs.TableText.{table_text}
 use Rattle.flow_core.specs.declared.case.Case.{Case}
 use Rattle.flow_core.specs.LiveText.{flow_from}
 use Rattle.reg_compiler.specs.declared.built.Built.{Built}
-use Rattle.scenario_json.specs.declared.fault.SceneFault.{SceneFault}
+use Rattle.scene_faults.specs.declared.fault.SceneFault.{SceneFault}
 use Rattle.scene_core.specs.declared.scene.SharedScene.{SharedScene}
 use Rattle.scene_core.specs.CasePlans.{plan_of, AreFlowsFrom}
 use Rattle.scenario_json.specs.Cases.{case_names, IsCoded}
@@ -16,9 +16,9 @@ use Rattle.scenario_json.specs.SharedScenes.{SharedParts, shared_with, shared_sc
 use Rattle.shared_link.specs.declared.round.Counts.{Counts}
 use Rattle.shared_link.specs.declared.shared_case.SharedCase.{SharedCase}
 use Rattle.shared_run.specs.SharedHistory.{shared_rows, shared_counts}
-use Rattle.ccp_run.specs.declared.outcome.ModeOutput.{ModeOutput}
-use Rattle.ccp_run.specs.declared.refusal.Limit.TheVariants.{Input}
-use Rattle.ccp_run.specs.declared.stop.Stop.{Stop}
+use Rattle.run_ending.specs.declared.outcome.ModeOutput.{ModeOutput}
+use Rattle.run_ending.specs.declared.refusal.Limit.TheVariants.{Input}
+use Rattle.run_ending.specs.declared.stop.Stop.{Stop}
 use Rattle.ccp_run.specs.Campaign.{case_agents}
 use Rattle.ccp_run.specs.Rules.{Rules, reads_whole}
 use Rattle.ccp_run.specs.Scenes.{IsOfScene, SaysSomething, StopsFor}

@@ -12,8 +12,8 @@ use Rattle.scenario_json.specs.Cases.{case_names}
 use Rattle.shared_link.specs.declared.shared_case.SharedCase.{SharedCase}
 use Rattle.campaign_core.specs.FlowRow.{world_of_core}
 use Rattle.shared_run.specs.SharedHistory.{flows_at_end}
-use Rattle.ccp_run.specs.declared.outcome.ModeOutput.{ModeOutput}
-use Rattle.ccp_run.specs.declared.refusal.Limit.TheVariants.{Input}
+use Rattle.run_ending.specs.declared.outcome.ModeOutput.{ModeOutput}
+use Rattle.run_ending.specs.declared.refusal.Limit.TheVariants.{Input}
 use Rattle.ccp_run.specs.Campaign.{case_agents, frames_shown}
 use Rattle.ccp_run.specs.Rules.{Rules, reads_whole}
 use Rattle.ccp_run.specs.Scenes.{IsOfScene, SaysSomething}

@@ -8,8 +8,8 @@ use Rattle.scenario_json.specs.Cases.{IsCoded}
 use Rattle.scenario_json.specs.Scene.{scene_with}
 use Rattle.reg_compiler.specs.Sources.{sources_of}
 use Rattle.scenario_json.specs.Soak.{gen}
-use Rattle.ccp_run.specs.declared.outcome.ModeOutput.{ModeOutput}
-use Rattle.ccp_run.specs.declared.refusal.Limit.TheVariants.{Input}
+use Rattle.run_ending.specs.declared.outcome.ModeOutput.{ModeOutput}
+use Rattle.run_ending.specs.declared.refusal.Limit.TheVariants.{Input}
 use Rattle.ccp_run.specs.Campaign.{source_rows}
 use Rattle.ccp_run.specs.Rules.{Rules}
 

@@ -17,7 +17,7 @@ use Rattle.campaign_core.specs.declared.row.Row.{Row}
 use Rattle.campaign_core.specs.CampaignRow.{row_read}
 use Rattle.campaign_core.specs.CampaignWord.{plan_over}
 use Rattle.campaign_report.specs.AcksText.{ack_lines}
-use Rattle.ccp_run.specs.declared.outcome.ModeOutput.{ModeOutput}
+use Rattle.run_ending.specs.declared.outcome.ModeOutput.{ModeOutput}
 use Rattle.ccp_run.specs.AuditRuns.{IsAuditCut, IsAuditOutput}
 use Rattle.ccp_run.specs.Timeline.{IsTimelineOutput}
 

@@ -10,7 +10,7 @@ use Rattle.flow_core.specs.LiveText.{flow_from, live_text}
 use Rattle.campaign_core.specs.CampaignWord.{plan_over}
 use Rattle.campaign_report.specs.BooksRead.{flows_of}
 use Rattle.scene_members.specs.declared.mode.SceneMode.TheVariants as scene
-use Rattle.ccp_run.specs.declared.outcome.ModeOutput.{ModeOutput}
+use Rattle.run_ending.specs.declared.outcome.ModeOutput.{ModeOutput}
 use Rattle.ccp_run.specs.Campaign.{frames_shown}
 use Rattle.ccp_run.specs.Live.{IsRightBook}
 use Rattle.ccp_run.specs.Rules.{Rules}

@@ -3,13 +3,13 @@ use Rattle.std.specs.Prelude.{◌≡◌, ◌≢◌, ◌↔◌, ℕ, true, false,
 use Rattle.ccp_base.specs.Outside.{no_memory}
 use Rattle.ccp_words.specs.declared.words.Asked.{Asked}
 use Rattle.ccp_words.specs.Words.{are_accepted, asked_in}
-use Rattle.ccp_run.specs.declared.outcome.Outcome.{Outcome}
-use Rattle.ccp_run.specs.declared.status.Status.TheVariants as status
+use Rattle.run_ending.specs.declared.outcome.Outcome.{Outcome}
+use Rattle.run_ending.specs.declared.status.Status.TheVariants as status
+use Rattle.run_ending.specs.Statuses.{status_number}
+use Rattle.run_ending.specs.Streams.{StreamChange}
 use Rattle.ccp_run.specs.Complete.{AnswersOrRefuses}
 use Rattle.ccp_run.specs.Modes.{task_of}
 use Rattle.ccp_run.specs.Run.{IsRun, IsUnasked}
-use Rattle.ccp_run.specs.Statuses.{status_number}
-use Rattle.ccp_run.specs.Streams.{StreamChange}
 
 pub record DoesWords (given : List (List ℕ)) (source sink errors : StreamChange) (is_finished : Type 0)
     (outcome : Outcome) : Type 0 where

@@ -3,22 +3,20 @@
 ghost use Rattle.std.specs.Prelude.{◌≤◌};
 ghost use Rattle.ccp_base.specs.Outside.{no_memory};
 ghost use Rattle.feed_core.specs.FeedEnds.{stream};
+ghost use Rattle.run_ending.specs.Endings.{Ends};
+ghost use Rattle.run_ending.specs.Statuses.{memory_line, words_line};
+ghost use Rattle.run_ending.specs.Streams.{stream_change};
 ghost use Rattle.ccp_run.specs.Complete.{DoesTask};
 ghost use Rattle.ccp_run.specs.DriveEnds.{AllowsDrive, IsDriveEnd};
-ghost use Rattle.ccp_run.specs.Endings.{Ends};
 ghost use Rattle.ccp_run.specs.Modes.{Task};
-ghost use Rattle.ccp_run.specs.Statuses.{memory_line, words_line};
-ghost use Rattle.ccp_run.specs.Streams.{stream_change};
 
 use crate::drive_end::DriveEnd;
-use crate::ending::end_without;
 use crate::modes::drive::drive_frames;
 use crate::modes::run_alone;
-use crate::outcome::Outcome;
-use crate::status::{MEMORY_LINE, Status, WORDS_LINE};
 use ccp_base::{NoMemory, Sink, Source};
 use ccp_words::Alone;
 use feed_core::Duplex;
+use run_ending::{MEMORY_LINE, Outcome, Status, WORDS_LINE, end_without};
 use std::alloc::Global;
 
 /// Does the work of a mode: in `feed` it answers the frames of the source as they come, in whatever pieces; else it

@@ -1,9 +1,8 @@
 //! How the reading of an input of `drive` ends.
 
-use crate::refusal::{Limit, Refusal};
-use crate::stop::Stop;
 use ccp_base::NoMemory;
 use feed_core::FeedEnd;
+use run_ending::{Limit, Refusal, Stop};
 
 /// How the reading of an input of `drive` ends.
 #[derive(Drop)]

@@ -3,16 +3,11 @@
 
 pub mod calls;
 mod drive_end;
-mod ending;
 mod laws;
 mod modes;
-mod outcome;
 mod program;
 mod reading;
-mod refusal;
 mod scene;
-mod status;
-mod stop;
 mod tool;
 mod unheard;
 
@@ -23,7 +18,5 @@ pub use laws::{
     acks_read_back_law, drive_law, fold_feed_law, input_law, shared_timeline_rows_law,
     timeline_audited_law, timeline_row_law,
 };
-pub use outcome::{ModeOutput, Outcome};
-pub use refusal::{Limit, Refusal};
-pub use status::Status;
+pub use run_ending::{Limit, ModeOutput, Outcome, Refusal, Status};
 pub use tool::run;

@@ -21,14 +21,11 @@ mod timeline;
 
 ghost use Rattle.std.specs.Prelude.{◌≡◌, false};
 ghost use Rattle.ccp_words.specs.Words.{HasWorkers};
+ghost use Rattle.run_ending.specs.Streams.{stream_change};
 ghost use Rattle.ccp_run.specs.Attempts.{IsAttempt};
 ghost use Rattle.ccp_run.specs.Modes.{Task, is_stream, task_of};
 ghost use Rattle.ccp_run.specs.Run.{IsRun};
-ghost use Rattle.ccp_run.specs.Streams.{stream_change};
 
-use crate::ending::end;
-use crate::outcome::{ModeOutput, Outcome};
-use crate::stop::Stop;
 use acks::read_acks;
 use audit::read_audit;
 use campaign::read_campaign;
@@ -41,6 +38,7 @@ use feed::run_feed;
 use fold::read_fold;
 use live::read_live;
 use rollout::read_rollout;
+use run_ending::{ModeOutput, Outcome, Stop, end};
 use shared::read_shared;
 use shared_acks::read_shared_acks;
 use shared_timeline::read_shared_timeline;

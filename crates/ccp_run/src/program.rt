@@ -5,11 +5,10 @@ ghost use Rattle.reg_compiler.specs.Counts.{lean};
 ghost use Rattle.portus_build.specs.Texts.{IsBuiltFrom};
 ghost use Rattle.ccp_run.specs.Check.{StopsProgram};
 
-use crate::refusal::Refusal;
-use crate::stop::Stop;
 use ccp_base::NoMemory;
 use portus_build::{BuildFault, build};
 use reg_compiler::{Built, Builts};
+use run_ending::{Refusal, Stop};
 use std::alloc::Global;
 
 /// The program that a text stands for, with its code.

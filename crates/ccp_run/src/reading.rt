@@ -1,10 +1,9 @@
 //! How a mode reads its input to the end, within the input's limit.
+ghost use Rattle.run_ending.specs.Streams.{stream_change};
 ghost use Rattle.ccp_run.specs.Attempts.{IsReadWithin};
-ghost use Rattle.ccp_run.specs.Streams.{stream_change};
 
-use crate::refusal::{Limit, Refusal};
-use crate::stop::Stop;
 use ccp_base::{Bytes, ReadFault, Source, read_all};
+use run_ending::{Limit, Refusal, Stop};
 use std::alloc::Global;
 
 /// Reads the source to its end, which comes within the limit.

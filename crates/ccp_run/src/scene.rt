@@ -5,25 +5,10 @@ ghost use Rattle.scenario_json.specs.Cases.{case_names, AreNumberedFrom};
 ghost use Rattle.scene_members.specs.Whole.{most_cases_of};
 ghost use Rattle.ccp_run.specs.Scenes.{IsScenario, StopsScene};
 
-use crate::refusal::Refusal;
-use crate::stop::Stop;
+use run_ending::Stop;
 use scenario_json::calls::scenario;
-use scenario_json::{Scenario, SceneFault, SceneMode};
+use scenario_json::{Scenario, SceneMode};
 use std::alloc::Global;
-
-impl From<SceneFault> for Stop {
-    ghost use Rattle.std.specs.Prelude.{◌≡◌};
-    ghost use Rattle.ccp_run.specs.Scenes.{scene_stop};
-
-    ghost from_gives = { λ fault stop. stop ≡ scene_stop fault };
-
-    fn from(fault: SceneFault) -> Stop {
-        match fault {
-            SceneFault::NoMemory(error) => Stop::NoMemory(error),
-            fault => Stop::Refused(Refusal::Scene(fault)),
-        }
-    }
-}
 
 /// The scenario that the bytes stand for.
 #[tactic(auto, using(crate::proofs::ScenarioInputs::scene_stops))]

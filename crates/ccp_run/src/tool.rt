@@ -1,14 +1,12 @@
 //! The public call `run`: the whole tool on its words, a source, a sink and an error stream.
 ghost use Rattle.std.specs.Prelude.{map, string_bytes};
-ghost use Rattle.ccp_run.specs.Streams.{stream_change};
+ghost use Rattle.run_ending.specs.Streams.{stream_change};
 ghost use Rattle.ccp_run.specs.Tool.{DoesWords};
 
-use crate::ending::end_without;
 use crate::modes::run_asked;
-use crate::outcome::Outcome;
-use crate::status::{MEMORY_LINE, Status, WORDS_LINE};
 use ccp_base::{Gate, Sink, Source};
 use ccp_words::{Unasked, read_words};
+use run_ending::{MEMORY_LINE, Outcome, Status, WORDS_LINE, end_without};
 use std::alloc::Global;
 use std::sync::Wait;
 use std::thread::Threads;

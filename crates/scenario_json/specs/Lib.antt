@@ -7,8 +7,6 @@ pub mod Cases
 pub mod SharedScenes
 pub mod Rollout
 pub mod Soak
-pub mod RefusalText
-pub mod MemberFaults
 -- those that only private contracts cite
 pub mod ParsedScenes
 pub mod Readers

@@ -3,8 +3,8 @@ use Rattle.std.specs.Prelude.{ℕ, Result, List}
 use Rattle.ccp_base.specs.Chaining.{then_do}
 use Rattle.scene_members.specs.Rollout.{OpenPlan, open_plans_in}
 use Rattle.scene_members.specs.Whole.{value_of_bytes}
-use Rattle.scenario_json.specs.declared.fault.SceneFault.{SceneFault}
-use Rattle.scenario_json.specs.MemberFaults.{in_scene}
+use Rattle.scene_faults.specs.declared.fault.SceneFault.{SceneFault}
+use Rattle.scene_faults.specs.MemberFaults.{in_scene}
 
 -- the scene of a text
 abbrev pub rollout_of : List ℕ → Result (List OpenPlan) SceneFault

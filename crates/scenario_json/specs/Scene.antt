@@ -10,8 +10,8 @@ use Rattle.scene_members.specs.Traces.{traces_in}
 use Rattle.scene_members.specs.Values.{member_of}
 use Rattle.scene_members.specs.Whole.{value_of_bytes, opening_in, cases_in}
 use Rattle.scene_core.specs.CasePlans.{at_once}
-use Rattle.scenario_json.specs.declared.fault.SceneFault.{SceneFault}
-use Rattle.scenario_json.specs.MemberFaults.{in_scene}
+use Rattle.scene_faults.specs.declared.fault.SceneFault.{SceneFault}
+use Rattle.scene_faults.specs.MemberFaults.{in_scene}
 use Rattle.reg_compiler.specs.Sources.{Sources}
 use Rattle.scenario_json.specs.ScenePrograms.{all_programs}
 

@@ -9,9 +9,9 @@ use Rattle.portus_build.specs.declared.fault.BuildFault.{BuildFault}
 use Rattle.ccp_base.specs.Chaining.{then_do}
 use Rattle.scene_members.specs.declared.key.Key.TheVariants as key
 use Rattle.scene_members.specs.NamedMembers.{named_members, named_text}
-use Rattle.scenario_json.specs.declared.fault.SceneFault.{SceneFault}
-use Rattle.scenario_json.specs.declared.fault.SceneFault.TheVariants.{Program}
-use Rattle.scenario_json.specs.MemberFaults.{in_scene}
+use Rattle.scene_faults.specs.declared.fault.SceneFault.{SceneFault}
+use Rattle.scene_faults.specs.declared.fault.SceneFault.TheVariants.{Program}
+use Rattle.scene_faults.specs.MemberFaults.{in_scene}
 
 -- a program under its name, or its refusal
 abbrev pub under_name : List ℕ → Result Form BuildFault → Result Form SceneFault

@@ -8,8 +8,8 @@ use Rattle.scene_members.specs.declared.plan.Plan.{Plan}
 use Rattle.scene_members.specs.declared.shared.Shares.{Shares}
 use Rattle.scene_members.specs.SharedMembers.{shares_in}
 use Rattle.scene_members.specs.Whole.{value_of_bytes}
-use Rattle.scenario_json.specs.declared.fault.SceneFault.{SceneFault}
-use Rattle.scenario_json.specs.MemberFaults.{in_scene}
+use Rattle.scene_faults.specs.declared.fault.SceneFault.{SceneFault}
+use Rattle.scene_faults.specs.MemberFaults.{in_scene}
 use Rattle.scenario_json.specs.Scene.{Scene, SceneParts, scene_of_parts, parts_in}
 
 -- the scene that is run, the link that its flows share, and the most rounds

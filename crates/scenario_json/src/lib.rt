@@ -4,14 +4,11 @@
 pub mod calls;
 mod cases;
 mod draws;
-mod fault;
 mod flow_links;
 mod parsed_scene;
-mod refusal;
 mod scenario;
 mod scene_programs;
 
-pub use fault::SceneFault;
-pub use refusal::put_scene_refusal;
 pub use scene_core::{Scenario, SharedScene};
+pub use scene_faults::SceneFault;
 pub use scene_members::{OpenCase, OpenCases, Path, SceneMode};

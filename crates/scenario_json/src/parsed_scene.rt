@@ -15,9 +15,9 @@ ghost use Rattle.scenario_json.specs.Scene.{parts_in};
 ghost use Rattle.scenario_json.specs.ScenePrograms.{all_programs};
 ghost use Rattle.scenario_json.specs.Readers.{Gives};
 
-use crate::fault::SceneFault;
 use crate::scene_programs::{SceneProgramList, built_ins, programs_in};
 use ccp_base::{NoMemory, Sequence};
+use scene_faults::SceneFault;
 use scene_members::{
     Key, Plans, SceneMode, Traces, cases_in, member, named_members, opening, traces_in,
 };

@@ -16,11 +16,11 @@ ghost use Rattle.reg_compiler.specs.Sources.{sources_of};
 ghost use Rattle.scenario_json.specs.ScenePrograms.{built_in, built_ins, names_of};
 ghost use Rattle.scenario_json.specs.Readers.{Gives};
 
-use crate::fault::SceneFault;
 use agent_core::BUILT_INS;
 use ccp_base::{Name, Names, NoMemory, Sequence};
 use portus_build::{BuildFault, build, builtin};
 use reg_compiler::{Built, Builts};
+use scene_faults::SceneFault;
 use scene_members::{Key, named_text};
 use serde_json::{Map, Value};
 use std::alloc::Global;

@@ -5,20 +5,18 @@ ghost use Rattle.ccp_base.specs.Limits.{most_flows};
 ghost use Rattle.scenario_json.specs.Cases.{IsCoded, AreNumberedFrom};
 ghost use Rattle.reg_compiler.specs.Sources.{sources_of};
 ghost use Rattle.run_audit.specs.Audit.{IsVerdict};
+ghost use Rattle.run_ending.specs.Streams.{stream_change};
 ghost use Rattle.ccp_run.specs.Attempts.{IsOutputOrRefusal, IsAttempt};
 ghost use Rattle.ccp_run.specs.AuditRuns.{verdict_text};
-ghost use Rattle.ccp_run.specs.Streams.{stream_change};
 ghost use Rattle.ccp_run.specs.Modes.{Task};
 
-use crate::outcome::ModeOutput;
 use crate::reading::read_bytes;
-use crate::refusal::{Limit, Refusal};
 use crate::scene::scene;
-use crate::stop::Stop;
 use ccp_base::{Bytes, NoMemory, Source};
 use ccp_words::Alone;
 use fold_run::separate;
 use run_audit::{Verdict, audit};
+use run_ending::{Limit, ModeOutput, Refusal, Stop};
 use scenario_json::{Scenario, SceneMode};
 use std::alloc::Global;
 

@@ -1,25 +1,23 @@
 //! The mode `campaign`: the table of a scenario's cases, after the programs' frames if the words ask for them.
 ghost use Rattle.std.specs.Prelude.{◌≡◌, ◌≤◌, ◌++◌, IfOk, length};
 ghost use Rattle.ccp_base.specs.Limits.{most_cases};
+ghost use Rattle.run_ending.specs.Streams.{stream_change};
 ghost use Rattle.ccp_run.specs.Attempts.{IsOutputOrRefusal, IsAttempt};
 ghost use Rattle.std.specs.List.{All};
 ghost use Rattle.campaign_report.specs.TableText.{table_text};
 ghost use Rattle.scenario_json.specs.Cases.{case_names, IsCoded, AreNumberedFrom};
 ghost use Rattle.ccp_run.specs.Campaign.{TellsCampaign, frames_shown};
-ghost use Rattle.ccp_run.specs.Streams.{stream_change};
 ghost use Rattle.ccp_run.specs.Modes.{Task};
 
 use crate::modes::common::{agents, frames};
-use crate::outcome::ModeOutput;
 use crate::reading::read_bytes;
-use crate::refusal::Limit;
 use crate::scene::scene;
-use crate::stop::Stop;
 use campaign_gate::Rows;
 use campaign_gate::calls::rows;
 use campaign_report::{Agents, table_text};
 use ccp_base::{Bytes, Gate, Names, NoMemory, Source, Workers};
 use reg_compiler::Builts;
+use run_ending::{Limit, ModeOutput, Stop};
 use scenario_json::{Scenario, SceneMode};
 use std::alloc::Global;
 use std::sync::Wait;

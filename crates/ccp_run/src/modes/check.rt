@@ -1,17 +1,15 @@
 //! The mode `check`: the summary and the listing of a program, or its refusal.
 ghost use Rattle.std.specs.Prelude.{◌≡◌};
+ghost use Rattle.run_ending.specs.Streams.{stream_change};
 ghost use Rattle.ccp_run.specs.Attempts.{IsOutputOrRefusal, IsAttempt};
-ghost use Rattle.ccp_run.specs.Streams.{stream_change};
 ghost use Rattle.ccp_run.specs.Modes.{Task};
 
-use crate::outcome::ModeOutput;
 use crate::program::{numbered_zero, program};
 use crate::reading::read_bytes;
-use crate::refusal::Limit;
-use crate::stop::Stop;
 use campaign_report::check_text;
 use ccp_base::Source;
 use ccp_words::Alone;
+use run_ending::{Limit, ModeOutput, Stop};
 use std::alloc::Global;
 
 /// Reads a program's text, and makes its summary and its listing.

@@ -8,25 +8,24 @@ ghost use Rattle.feed_core.specs.FeedEnds.{stream, AllowsAnswered};
 ghost use Rattle.feed_core.specs.Answering.{after};
 ghost use Rattle.driven_flow.specs.Driven.{codes_of};
 ghost use Rattle.driven_flow.specs.Session.{opening};
+ghost use Rattle.run_ending.specs.Streams.{stream_change};
 ghost use Rattle.ccp_run.specs.DriveInputs.{driven_by};
 ghost use Rattle.ccp_run.specs.DriveEnds.{AllowsDrive, IsDriveEnd, IsDrivenScene, IsFlowsEnd, IsOpened, IsSessionEnd};
-ghost use Rattle.ccp_run.specs.DriveEnds.{ReportsDrive};
+ghost use Rattle.ccp_run.specs.DriveEnds.{ReportsDrive, front_stop};
 ghost use Rattle.ccp_run.specs.Run.{IsRun};
 ghost use Rattle.ccp_run.specs.Scenes.{StopsScene};
-ghost use Rattle.ccp_run.specs.Streams.{stream_change};
 ghost use Rattle.ccp_run.specs.Modes.{Task};
 
 use crate::drive_end::DriveEnd;
-use crate::ending::{end_without, refuse};
-use crate::outcome::Outcome;
 use crate::scene::scene;
-use crate::status::{MEMORY_LINE, READ_LINE, Status, WRITE_LINE};
-use crate::stop::Stop;
 use ccp_base::{Sequence, Sink, Source};
-use driven_flow::{DrivenCase, Front, Programs, Session, driven_cases, read_front};
+use driven_flow::{DrivenCase, Front, FrontFault, Programs, Session, driven_cases, read_front};
 use feed_core::calls::answer_from;
 use feed_core::{Duplex, FeedEnd, Pair, Rest, write_answer};
 use reg_compiler::Builts;
+use run_ending::{
+    Limit, MEMORY_LINE, Outcome, READ_LINE, Refusal, Status, Stop, WRITE_LINE, end_without, refuse,
+};
 use scenario_json::SceneMode;
 use std::alloc::Global;
 
@@ -121,8 +120,22 @@ pub fn open_drive<D: Duplex>(alloc: Global, duplex: &mut D, rest: &mut Rest) -> 
         (stream (D.remaining duplex.old) (D.remaining duplex.new)
         (D.read_faults duplex.old) (D.read_faults duplex.new)) rest.new result }
 {
-    let front = read_front(alloc, duplex, rest)?;
-    driven_scene(alloc, front)
+    match read_front(alloc, duplex, rest) {
+        Ok(front) => driven_scene(alloc, front),
+        Err(fault) => Err(front_stop(fault)),
+    }
+}
+
+/// The stop that a fault of the text before the line `---` is. Both types are of other crates, so it can't be a `From`.
+fn front_stop(fault: FrontFault) -> Stop
+    ensures { result ≡ front_stop fault }
+{
+    match fault {
+        FrontFault::TooLong => Stop::Refused(Refusal::TooLong(Limit::Input)),
+        FrontFault::NoSeparator => Stop::Refused(Refusal::NoSeparator),
+        FrontFault::ReadFailed => Stop::ReadFailed,
+        FrontFault::NoMemory(error) => Stop::NoMemory(error),
+    }
 }
 
 /// The programs and the driven cases of the scenario before the line `---`.

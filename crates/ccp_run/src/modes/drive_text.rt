@@ -11,8 +11,6 @@ ghost use Rattle.ccp_run.specs.Modes.{Task};
 use crate::drive_end::DriveEnd;
 use crate::modes::common::frames;
 use crate::modes::drive::{Opened, drive_session, open_drive};
-use crate::outcome::ModeOutput;
-use crate::stop::Stop;
 use crate::unheard::Unheard;
 use campaign_core::{Row, Rows};
 use campaign_report::{own_table_text, put_own_acks};
@@ -21,6 +19,7 @@ use ccp_words::DriveText;
 use driven_flow::{DrivenFlow, Programs, Session, put_flow_part};
 use feed_core::Rest;
 use reg_compiler::Builts;
+use run_ending::{ModeOutput, Stop};
 use std::alloc::Global;
 
 /// Reads a scenario and the frames below it, and makes a text of the flows that the frames drove.

@@ -2,18 +2,17 @@
 
 ghost use Rattle.std.specs.Prelude.{◌≡◌};
 ghost use Rattle.ccp_words.specs.declared.mode.Alone.TheVariants as modes;
+ghost use Rattle.run_ending.specs.Streams.{stream_change};
 ghost use Rattle.ccp_run.specs.FeedEndings.{EndsFeed};
 ghost use Rattle.ccp_run.specs.Run.{IsRun};
-ghost use Rattle.ccp_run.specs.Streams.{stream_change};
 ghost use Rattle.ccp_run.specs.Modes.{Task};
 
-use crate::ending::{end_without, refuse};
-use crate::outcome::Outcome;
-use crate::refusal::{Limit, Refusal};
-use crate::status::{MEMORY_LINE, READ_LINE, Status, WRITE_LINE};
 use ccp_base::{Sink, Source};
 use feed_core::FeedEnd;
 use feed_core::calls::feed;
+use run_ending::{
+    Limit, MEMORY_LINE, Outcome, READ_LINE, Refusal, Status, WRITE_LINE, end_without, refuse,
+};
 use std::alloc::Global;
 
 /// Answers the frames of the source as they come, and reports why if it stops before a whole input's end.

@@ -3,22 +3,20 @@ ghost use Rattle.std.specs.Prelude.{◌≡◌, ◌≤◌, ◌∷◌, [], IfOk, l
 ghost use Rattle.ccp_base.specs.Limits.{most_acks};
 ghost use Rattle.portus_core.specs.ProgramForm.{form_of};
 ghost use Rattle.fold_run.specs.Ran.{ran_of};
+ghost use Rattle.run_ending.specs.Streams.{stream_change};
 ghost use Rattle.ccp_run.specs.Attempts.{IsOutputOrRefusal, IsAttempt};
 ghost use Rattle.ccp_run.specs.Fold.{folded_text};
-ghost use Rattle.ccp_run.specs.Streams.{stream_change};
 ghost use Rattle.ccp_run.specs.Modes.{Task};
 
-use crate::outcome::ModeOutput;
 use crate::program::{numbered_zero, program};
 use crate::reading::read_bytes;
-use crate::refusal::{Limit, Refusal};
-use crate::stop::Stop;
 use campaign_report::fold_text;
 use ccp_base::{Ack, NoMemory, Source};
 use ccp_words::Alone;
 use fold_run::calls::fold_acks;
 use fold_run::{LineFault, acknowledgements, separate};
 use reg_compiler::Built;
+use run_ending::{Limit, ModeOutput, Refusal, Stop};
 use std::alloc::Global;
 
 /// Reads a program and acknowledgements below it, and makes the program's fold over these.

@@ -2,17 +2,15 @@
 ghost use Rattle.std.specs.Prelude.{◌≤◌, IfOk, IfErr, length};
 ghost use Rattle.ccp_base.specs.Limits.{most_flows};
 ghost use Rattle.scene_members.specs.OpenCases.{AreOpenFlowsFrom};
+ghost use Rattle.run_ending.specs.Streams.{stream_change};
 ghost use Rattle.ccp_run.specs.Attempts.{IsOutputOrRefusal, IsAttempt};
 ghost use Rattle.ccp_run.specs.Rollout.{IsRolloutScenario, StopsRollout, TellsRollout};
-ghost use Rattle.ccp_run.specs.Streams.{stream_change};
 ghost use Rattle.ccp_run.specs.Modes.{Task};
 
-use crate::outcome::ModeOutput;
 use crate::reading::read_bytes;
-use crate::refusal::Limit;
-use crate::stop::Stop;
 use ccp_base::{Gate, NoMemory, Source, Workers};
 use live_install::{rollout, rollout_text};
+use run_ending::{Limit, ModeOutput, Stop};
 use scenario_json::OpenCases;
 use scenario_json::calls::rollout_scene;
 use std::alloc::Global;

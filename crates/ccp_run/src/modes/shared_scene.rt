@@ -6,8 +6,8 @@ ghost use Rattle.scenario_json.specs.Cases.{case_names, AreNumberedFrom};
 ghost use Rattle.shared_link.specs.SharedLimits.{IsWithin};
 ghost use Rattle.ccp_run.specs.Shared.{IsSharedScenario, StopsShared, link_line};
 
-use crate::stop::Stop;
 use ccp_base::{Bytes, NoMemory};
+use run_ending::Stop;
 use scenario_json::SharedScene;
 use scenario_json::calls::shared_scene;
 use shared_link::Counts;

@@ -7,21 +7,19 @@ ghost use Rattle.scene_core.specs.CasePlans.{plan_of, AreFlowsFrom, flow_link_of
 ghost use Rattle.campaign_report.specs.BookText.{books_text};
 ghost use Rattle.scenario_json.specs.Cases.{IsCoded, AreNumberedFrom};
 ghost use Rattle.shared_link.specs.SharedLimits.{IsWithin};
+ghost use Rattle.run_ending.specs.Streams.{stream_change};
 ghost use Rattle.ccp_run.specs.Attempts.{IsOutputOrRefusal, IsAttempt};
 ghost use Rattle.ccp_run.specs.Campaign.{frames_shown};
 ghost use Rattle.ccp_run.specs.Modes.{Task};
 ghost use Rattle.ccp_run.specs.Shared.{link_line};
 ghost use Rattle.ccp_run.specs.SharedSeries.{shared_timeline_text};
-ghost use Rattle.ccp_run.specs.Streams.{stream_change};
 
 use crate::modes::common::books_text;
 use crate::modes::shared_scene::{put_link_line, read_shared_scene};
 use crate::modes::shared_series::{Series, run_series};
-use crate::outcome::ModeOutput;
 use crate::reading::read_bytes;
-use crate::refusal::Limit;
-use crate::stop::Stop;
 use ccp_base::{Bytes, Gate, NoMemory, Source, Workers};
+use run_ending::{Limit, ModeOutput, Stop};
 use scenario_json::SharedScene;
 use std::alloc::Global;
 use std::sync::Wait;

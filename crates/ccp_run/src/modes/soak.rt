@@ -1,15 +1,14 @@
 //! The mode `soak`: the generated cases of a number, run and summed up.
 ghost use Rattle.std.specs.Prelude.{◌≡◌, ◌≤◌, IfOk};
+ghost use Rattle.run_ending.specs.Streams.{StreamChange, IsUntouched};
 ghost use Rattle.ccp_run.specs.Attempts.{IsAttempt};
 ghost use Rattle.ccp_run.specs.Soak.{IsSoakOutput};
-ghost use Rattle.ccp_run.specs.Streams.{StreamChange, IsUntouched};
 ghost use Rattle.ccp_run.specs.Modes.{Task};
 
-use crate::outcome::ModeOutput;
-use crate::stop::Stop;
 use campaign_gate::calls::rows;
 use campaign_report::soak_text;
 use ccp_base::{Gate, NoMemory, Workers};
+use run_ending::{ModeOutput, Stop};
 use scenario_json::calls::soak;
 use std::alloc::Global;
 use std::sync::Wait;

@@ -1,7 +1,7 @@
 use Rattle.std.proofs.Common.{ap, refl, subst, sym}
+use Rattle.run_ending.specs.Streams.{StreamChange, stream_change}
 use Rattle.ccp_run.specs.Attempts.{IsAttempt}
 use Rattle.ccp_run.specs.Modes.{Task, task_in}
-use Rattle.ccp_run.specs.Streams.{StreamChange, stream_change}
 use Rattle.ccp_run.proofs.modes.make_asked.Goals as goal
 
 -- the source is as it was

@@ -1,6 +1,6 @@
 use Rattle.std.proofs.Common.{◌≡◌, false, rules}
+use Rattle.run_ending.specs.Streams.{StreamChange, stream_change}
 use Rattle.ccp_run.specs.Modes.{Alone, is_stream}
-use Rattle.ccp_run.specs.Streams.{StreamChange, stream_change}
 use Rattle.ccp_run.proofs.RunLemmas.{run_of}
 use Rattle.ccp_run.proofs.modes.run_alone.Goals as goal
 

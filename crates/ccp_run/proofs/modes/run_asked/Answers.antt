@@ -1,7 +1,7 @@
 use Rattle.std.proofs.Common.{◌≡◌, ap, false, refl, rules, subst, sym}
+use Rattle.run_ending.specs.Streams.{StreamChange, stream_change}
 use Rattle.ccp_run.specs.Modes.{Task, Driven, is_stream, task_in, task_of}
 use Rattle.ccp_run.specs.Run.{IsRun}
-use Rattle.ccp_run.specs.Streams.{StreamChange, stream_change}
 use Rattle.ccp_run.proofs.RunLemmas.{run_of, run_of_stream}
 use Rattle.ccp_run.proofs.modes.run_asked.Goals as goal
 

@@ -2,10 +2,10 @@ use Rattle.std.proofs.Common.{◌≡◌, ◌∙◌, true, Some, List, ℕ, ap, i
 use Rattle.std.proofs.lemmas.Option.{same_Some}
 use Rattle.ccp_words.specs.declared.words.Asked.{Asked}
 use Rattle.ccp_words.specs.Words.{are_accepted, asked_in}
+use Rattle.run_ending.specs.Streams.{StreamChange, stream_change}
 use Rattle.ccp_run.specs.Complete.{AnswersOrRefuses}
 use Rattle.ccp_run.specs.Modes.{task_of}
 use Rattle.ccp_run.specs.Run.{IsRun}
-use Rattle.ccp_run.specs.Streams.{StreamChange, stream_change}
 use Rattle.ccp_run.proofs.CompleteRuns.{complete}
 use Rattle.ccp_run.proofs.RunLemmas.{never_words_refused, wants_at_once}
 use Rattle.ccp_run.proofs.tool.run.Goals as goal

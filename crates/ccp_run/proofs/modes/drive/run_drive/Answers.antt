@@ -1,4 +1,4 @@
-use Rattle.ccp_run.specs.Streams.{StreamChange, stream_change}
+use Rattle.run_ending.specs.Streams.{StreamChange, stream_change}
 use Rattle.ccp_run.proofs.DriveRunLemmas.{run_of_drive}
 use Rattle.ccp_run.proofs.modes.drive.run_drive.Goals as goal
 

@@ -1,4 +1,4 @@
-use Rattle.ccp_run.specs.Streams.{StreamChange, stream_change}
+use Rattle.run_ending.specs.Streams.{StreamChange, stream_change}
 use Rattle.ccp_run.proofs.FeedRunLemmas.{run_of_feed}
 use Rattle.ccp_run.proofs.modes.feed.run_feed.Goals as goal
 

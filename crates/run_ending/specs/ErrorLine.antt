@@ -4,12 +4,12 @@ use Rattle.ccp_base.specs.Limits.{most_input_bytes, most_audit_bytes}
 use Rattle.portus_build.specs.RefusalText.{refusal_text}
 use Rattle.reply_frames.specs.declared.fault.BadKind.{BadKind}
 use Rattle.reply_frames.specs.declared.fault.BadKind.TheVariants as bad
-use Rattle.scenario_json.specs.RefusalText as scene
+use Rattle.scene_faults.specs.RefusalText as scene
 use Rattle.ccp_base.specs.Text.{◌⧺◌}
-use Rattle.ccp_run.specs.declared.refusal.Limit.{Limit}
-use Rattle.ccp_run.specs.declared.refusal.Limit.TheVariants.{Input, Audit}
-use Rattle.ccp_run.specs.declared.refusal.Refusal.{Refusal}
-use Rattle.ccp_run.specs.declared.refusal.Refusal.TheVariants.{TooLong, NoSeparator, Program, Line, TooManyAcks, Scene, Frame, FrameCut}
+use Rattle.run_ending.specs.declared.refusal.Limit.{Limit}
+use Rattle.run_ending.specs.declared.refusal.Limit.TheVariants.{Input, Audit}
+use Rattle.run_ending.specs.declared.refusal.Refusal.{Refusal}
+use Rattle.run_ending.specs.declared.refusal.Refusal.TheVariants.{TooLong, NoSeparator, Program, Line, TooManyAcks, Scene, Frame, FrameCut}
 
 abbrev pub most_bytes : Limit → ℕ
 most_bytes Input = most_input_bytes

@@ -4,8 +4,8 @@ use Rattle.ccp_base.specs.Text.{◌⧺◌}
 use Rattle.link_model.specs.declared.trace.TraceFault.{TraceFault}
 use Rattle.link_model.specs.declared.trace.TraceFault.TheVariants as trace
 use Rattle.portus_build.specs.RefusalText as build
-use Rattle.scenario_json.specs.declared.fault.SceneFault.{SceneFault}
-use Rattle.scenario_json.specs.declared.fault.SceneFault.TheVariants.{Json, Missing, Wrong, Range, Program, Trace, Totals, NoMemory}
+use Rattle.scene_faults.specs.declared.fault.SceneFault.{SceneFault}
+use Rattle.scene_faults.specs.declared.fault.SceneFault.TheVariants.{Json, Missing, Wrong, Range, Program, Trace, Totals, NoMemory}
 
 -- why a text is no trace
 abbrev pub trace_text : TraceFault → List ℕ

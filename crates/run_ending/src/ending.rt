@@ -1,7 +1,7 @@
 //! How a run ends: with its output, or with a line for the error stream that gives the cause.
 ghost use Rattle.std.specs.Prelude.{◌≡◌, ◌≤◌};
-ghost use Rattle.ccp_run.specs.Endings.{Ends, IsEnding, Refuses, Writes};
-ghost use Rattle.ccp_run.specs.Streams.{stream_change};
+ghost use Rattle.run_ending.specs.Endings.{Ends, IsEnding, Refuses, Writes};
+ghost use Rattle.run_ending.specs.Streams.{stream_change};
 
 use crate::outcome::{ModeOutput, Outcome};
 use crate::refusal::{Refusal, refusal_line};

@@ -1,11 +1,11 @@
 //! Why an input is refused, how long inputs may be, and the line that reports a refusal.
 ghost use Rattle.std.specs.Prelude.{◌≡◌, ◌++◌, IfOk, OnOk, codes, decimal};
-ghost use Rattle.ccp_run.specs.ErrorLine.{field_name, most_bytes, refusal_line};
+ghost use Rattle.run_ending.specs.ErrorLine.{field_name, most_bytes, refusal_line};
 
 use ccp_base::{Bytes, NoMemory};
 use portus_build::{BuildFault, put_refusal};
 use reply_frames::BadKind;
-use scenario_json::{SceneFault, put_scene_refusal};
+use scene_faults::{SceneFault, put_scene_refusal};
 use std::alloc::Global;
 
 /// How long an input may be.

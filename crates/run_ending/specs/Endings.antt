@@ -1,18 +1,18 @@
 -- How a run ends once its output is made, or once it is known that there is none.
 use Rattle.std.specs.Prelude.{◌≡◌, ◌≢◌, ℕ, Result, Ok, Err, List, []}
 use Rattle.ccp_base.specs.Outside.{Rose, Appends, AppendsPrefix, no_memory}
-use Rattle.ccp_run.specs.declared.outcome.ModeOutput.{ModeOutput}
-use Rattle.ccp_run.specs.declared.outcome.Outcome.{Outcome}
-use Rattle.ccp_run.specs.declared.refusal.Limit.{Limit}
-use Rattle.ccp_run.specs.declared.refusal.Refusal.{Refusal}
-use Rattle.ccp_run.specs.declared.refusal.Refusal.TheVariants.{TooLong}
-use Rattle.ccp_run.specs.declared.status.Status.{Status}
-use Rattle.ccp_run.specs.declared.status.Status.TheVariants as status
-use Rattle.ccp_run.specs.declared.stop.Stop.{Stop}
-use Rattle.ccp_run.specs.declared.stop.Stop.TheVariants as stop
-use Rattle.ccp_run.specs.ErrorLine.{refusal_line}
-use Rattle.ccp_run.specs.Statuses.{status_number, read_line, write_line, memory_line}
-use Rattle.ccp_run.specs.Streams.{StreamChange, Tells}
+use Rattle.run_ending.specs.declared.outcome.ModeOutput.{ModeOutput}
+use Rattle.run_ending.specs.declared.outcome.Outcome.{Outcome}
+use Rattle.run_ending.specs.declared.refusal.Limit.{Limit}
+use Rattle.run_ending.specs.declared.refusal.Refusal.{Refusal}
+use Rattle.run_ending.specs.declared.refusal.Refusal.TheVariants.{TooLong}
+use Rattle.run_ending.specs.declared.status.Status.{Status}
+use Rattle.run_ending.specs.declared.status.Status.TheVariants as status
+use Rattle.run_ending.specs.declared.stop.Stop.{Stop}
+use Rattle.run_ending.specs.declared.stop.Stop.TheVariants as stop
+use Rattle.run_ending.specs.ErrorLine.{refusal_line}
+use Rattle.run_ending.specs.Statuses.{status_number, read_line, write_line, memory_line}
+use Rattle.run_ending.specs.Streams.{StreamChange, Tells}
 
 -- the run ends with this status, reports this line, and keeps nothing
 pub record Ends (errors : StreamChange) (outcome : Outcome) (end : Status) (line : List ℕ) : Type 0 where

@@ -39,7 +39,7 @@ pub enum SceneFault {
 
 impl From<MemberFault> for SceneFault {
     ghost use Rattle.std.specs.Prelude.{◌≡◌};
-    ghost use Rattle.scenario_json.specs.MemberFaults.{scene_fault};
+    ghost use Rattle.scene_faults.specs.MemberFaults.{scene_fault};
 
     ghost from_gives = { λ fault result. result ≡ scene_fault fault };
 
@@ -58,7 +58,7 @@ impl From<MemberFault> for SceneFault {
 
 impl From<AllocError> for SceneFault {
     ghost use Rattle.std.specs.Prelude.{◌≡◌};
-    ghost use Rattle.scenario_json.specs.declared.fault.SceneFault.TheVariants as fault;
+    ghost use Rattle.scene_faults.specs.declared.fault.SceneFault.TheVariants as fault;
 
     ghost from_gives = { λ _ f. f ≡ fault.NoMemory no_memory };
 
@@ -69,7 +69,7 @@ impl From<AllocError> for SceneFault {
 
 impl From<NoMemory> for SceneFault {
     ghost use Rattle.std.specs.Prelude.{◌≡◌};
-    ghost use Rattle.scenario_json.specs.declared.fault.SceneFault.TheVariants as fault;
+    ghost use Rattle.scene_faults.specs.declared.fault.SceneFault.TheVariants as fault;
 
     ghost from_gives = { λ _ f. f ≡ fault.NoMemory no_memory };
 

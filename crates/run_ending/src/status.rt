@@ -1,6 +1,6 @@
 //! The statuses with which a run ends, and the lines that report them.
 ghost use Rattle.std.specs.Prelude.{◌≡◌};
-ghost use Rattle.ccp_run.specs.Statuses.{status_number, words_line, read_line, write_line, memory_line};
+ghost use Rattle.run_ending.specs.Statuses.{status_number, words_line, read_line, write_line, memory_line};
 
 use ccp_base::NoMemory;
 

@@ -1,6 +1,6 @@
 //! The texts of scenarios' refusals: a word with the path, or a name with the refusal of its text.
 ghost use Rattle.std.specs.Prelude.{◌≡◌, ◌++◌, OnOk, decimal};
-ghost use Rattle.scenario_json.specs.RefusalText.{trace_text, refusal_text};
+ghost use Rattle.scene_faults.specs.RefusalText.{trace_text, refusal_text};
 
 use crate::fault::SceneFault;
 use ccp_base::{Bytes, Name, NoMemory};

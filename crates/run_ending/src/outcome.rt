@@ -1,10 +1,10 @@
 //! What a mode makes of its input, and what a run gives its caller: text, status, books and programs.
 ghost use Rattle.std.specs.Prelude.{◌≡◌, []};
-ghost use Rattle.ccp_run.specs.Statuses.{status_number};
+ghost use Rattle.run_ending.specs.Statuses.{status_number};
 
 use crate::status::Status;
-use agent_loop::Books;
-use ccp_base::Bytes;
+use ccp_base::{Bytes, Sequence};
+use flow_core::Book;
 use reg_compiler::Builts;
 use std::alloc::Global;
 
@@ -13,7 +13,7 @@ use std::alloc::Global;
 pub struct ModeOutput {
     pub text: Bytes,
     /// In `live` and `timeline` a book of each flow, in order; else none.
-    pub books: Books,
+    pub books: Sequence<Book>,
     /// In `check` and `fold` the program with its code, under the number 0; in `live`, `campaign`, `soak`, `timeline`,
     /// `acks`, `shared-timeline`, `shared-acks` and the texts of driven flows all programs of the scenario; else none.
     pub programs: Builts,
@@ -23,7 +23,7 @@ pub struct ModeOutput {
 
 impl ModeOutput {
     /// A text, without a book, a program or an instruction.
-    pub(crate) fn text(alloc: Global, text: Bytes) -> ModeOutput
+    pub fn text(alloc: Global, text: Bytes) -> ModeOutput
         ensures text { result.text ≡ text }
         ensures books { result.books ≡ [] }
         ensures programs { result.programs ≡ [] }
@@ -33,17 +33,17 @@ impl ModeOutput {
     }
 
     /// A text and programs, without a book or an instruction.
-    pub(crate) fn with_programs(alloc: Global, text: Bytes, programs: Builts) -> ModeOutput
+    pub fn with_programs(alloc: Global, text: Bytes, programs: Builts) -> ModeOutput
         ensures text { result.text ≡ text }
         ensures books { result.books ≡ [] }
         ensures programs { result.programs ≡ programs }
         ensures ran { result.ran ≡ 0 }
     {
-        ModeOutput::with_books(text, Books::new(alloc), programs)
+        ModeOutput::with_books(text, Sequence::new(alloc), programs)
     }
 
     /// A text, books and programs, without an instruction.
-    pub(crate) fn with_books(text: Bytes, books: Books, programs: Builts) -> ModeOutput
+    pub fn with_books(text: Bytes, books: Sequence<Book>, programs: Builts) -> ModeOutput
         ensures text { result.text ≡ text }
         ensures books { result.books ≡ books }
         ensures programs { result.programs ≡ programs }
@@ -64,7 +64,7 @@ pub struct Outcome {
     /// The number of a `Status`.
     pub status: u8,
     /// At status 0 those of the mode's output, else none.
-    pub books: Books,
+    pub books: Sequence<Book>,
     /// At status 0 those of the mode's output, else none.
     pub programs: Builts,
     /// At status 0 that of the mode's output, else 0.
@@ -73,7 +73,7 @@ pub struct Outcome {
 
 impl Outcome {
     /// The end of a run with this status that keeps nothing.
-    pub(crate) fn empty(alloc: Global, status: Status) -> Outcome
+    pub fn empty(alloc: Global, status: Status) -> Outcome
         ensures status { result.status ≡ status_number status }
         ensures books { result.books ≡ [] }
         ensures programs { result.programs ≡ [] }
@@ -81,7 +81,7 @@ impl Outcome {
     {
         Outcome {
             status: status.number(),
-            books: Books::new(alloc),
+            books: Sequence::new(alloc),
             programs: Builts::new(alloc),
             ran: 0,
         }

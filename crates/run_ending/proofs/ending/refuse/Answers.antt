@@ -1,9 +1,9 @@
 use Rattle.std.proofs.Common.{◌≡◌, ◌∙◌, List, ℕ, ap, sym, subst}
-use Rattle.ccp_run.specs.declared.status.Status.TheVariants as status
-use Rattle.ccp_run.specs.Endings.{Ends}
-use Rattle.ccp_run.specs.ErrorLine.{refusal_line}
-use Rattle.ccp_run.specs.Streams.{stream_change}
-use Rattle.ccp_run.proofs.ending.refuse.Goals as goal
+use Rattle.run_ending.specs.declared.status.Status.TheVariants as status
+use Rattle.run_ending.specs.Endings.{Ends}
+use Rattle.run_ending.specs.ErrorLine.{refusal_line}
+use Rattle.run_ending.specs.Streams.{stream_change}
+use Rattle.run_ending.proofs.ending.refuse.Goals as goal
 
 pub returns-in-TooLong : goal.returns-in-TooLong
 returns-in-TooLong g c =

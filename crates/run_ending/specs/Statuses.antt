@@ -1,7 +1,7 @@
 -- How a run ends: the number and the line of each status.
 use Rattle.std.specs.Prelude.{ℕ, List, codes}
-use Rattle.ccp_run.specs.declared.status.Status.{Status}
-use Rattle.ccp_run.specs.declared.status.Status.TheVariants as status
+use Rattle.run_ending.specs.declared.status.Status.{Status}
+use Rattle.run_ending.specs.declared.status.Status.TheVariants as status
 
 abbrev pub status_number : Status → ℕ
 status_number status.Done = 0

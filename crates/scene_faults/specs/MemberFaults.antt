@@ -3,8 +3,8 @@ use Rattle.std.specs.Prelude.{Result, Ok, Err}
 use Rattle.ccp_base.specs.Outside.{no_memory}
 use Rattle.scene_members.specs.declared.fault.MemberFault.{MemberFault}
 use Rattle.scene_members.specs.declared.fault.MemberFault.TheVariants as member
-use Rattle.scenario_json.specs.declared.fault.SceneFault.{SceneFault}
-use Rattle.scenario_json.specs.declared.fault.SceneFault.TheVariants.{Json, Missing, Wrong, Range, Trace, Totals, NoMemory}
+use Rattle.scene_faults.specs.declared.fault.SceneFault.{SceneFault}
+use Rattle.scene_faults.specs.declared.fault.SceneFault.TheVariants.{Json, Missing, Wrong, Range, Trace, Totals, NoMemory}
 
 abbrev pub scene_fault : MemberFault → SceneFault
 scene_fault member.Json = Json

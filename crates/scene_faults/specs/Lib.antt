@@ -1,0 +1,3 @@
+-- The definitions of scene_faults.
+pub mod MemberFaults
+pub mod RefusalText
