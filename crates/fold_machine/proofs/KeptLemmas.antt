@@ -1,5 +1,5 @@
 -- What start values make of the registers that are kept.
-use Rattle.std.proofs.Common.{◌≡◌, ◌≢◌, ℕ, zero, suc, ◌+◌, ◌<◌, ◌≤◌, Bool, true, false, cond, List, [], ◌∷◌, length, length-set, map, slice_index, slice_set, get_or-set_other, get_or-set_same, refl, ap, ◌∙◌, inl, inr, ◌⊎◌, arith}
+use Rattle.std.proofs.Common.{◌≡◌, ◌≢◌, ℕ, suc, ◌+◌, ◌<◌, ◌≤◌, Bool, true, false, cond, List, [], ◌∷◌, length, length-set, map, slice_index, slice_set, get_or-set_other, get_or-set_same, refl, ap, ◌∙◌, inl, inr, ◌⊎◌, arith}
 use Rattle.ccp_base.specs.Limits.{most_fields, most_controls}
 use Rattle.reg_code.specs.declared.code.Code.{Code}
 use Rattle.reg_code.specs.declared.code.Start.{Start}
@@ -125,11 +125,6 @@ others-from old new words is same = record {
   further = ap (λ (s : StoreState). s.further) is;
   length = ap (λ (s : StoreState). length s.registers) is ∙ same;
 }
-
-pub set-past : (xs : List ℕ) (i value : ℕ) → length xs ≤ i → slice_set xs i value ≡ xs
-set-past [] i value past = refl
-set-past (x ∷ xs) zero value past = absurd (omega arith)
-set-past (x ∷ xs) (suc i) value past = ap (λ ys. x ∷ ys) (set-past xs i value (omega arith))
 
 pub declared-twice : (code : Code) (words : List ℕ) (now : ℕ) → length (declared_words code.controls (first_field_word + length code.reports) (declared_words code.reports first_field_word (slice_set words zero_word now))) ≡ length words
 declared-twice code words now =

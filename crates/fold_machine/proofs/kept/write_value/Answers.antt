@@ -1,10 +1,10 @@
 use Rattle.std.proofs.Common.{◌≡◌, ◌+◌, ◌<◌, ◌≤◌, length, slice_set, sym, ap, ◌∙◌, arith}
+use Rattle.std.proofs.lemmas.List.{set_past}
 use Rattle.ccp_base.specs.declared.fields.FieldReg.{FieldReg}
 use Rattle.reg_code.specs.CodeStart.{with_value}
 use Rattle.fold_machine.specs.Store.{StoreState}
 use Rattle.fold_machine.specs.Layout.{words_from, kept_in, first_field_word}
 use Rattle.fold_machine.proofs.LayoutLemmas.{from-length, kept-cwnd, kept-rate, kept-control}
-use Rattle.fold_machine.proofs.KeptLemmas.{set-past}
 use Rattle.fold_machine.proofs.kept.write_value.Goals as goal
 
 pub returns-in-Cwnd-clause-written : goal.returns-in-Cwnd-clause-written
@@ -39,5 +39,5 @@ returns-else-from-sizes-clause-written c =
     let controls = words_from words (first_field_word + sizes.reports) sizes.controls in
     let many : length controls ≡ sizes.controls = from-length words (first_field_word + sizes.reports) sizes.controls in
     let past : length controls ≤ i = omega (arith, many, c.if-from-sizes.false, c.from.ensures) in
-    ap (λ xs. record (kept_in sizes words) { controls = xs }) (sym (set-past controls i c.args.value past))
+    ap (λ xs. record (kept_in sizes words) { controls = xs }) (sym (set_past controls i c.args.value past))
     ∙ ap (λ (r : FieldReg). with_value r c.args.value (kept_in sizes words)) (sym c.in-Control.is)
