@@ -17,7 +17,7 @@ mod text;
 
 pub use ccp_base::{FIELDS, Op2, PRIMITIVES, Sequence};
 pub use checked::Checked;
-pub use code::{Code, Event, Implicit, Instr, Op, Reg, Start};
+pub use code::{Code, Event, FEW_FIELDS, Implicit, Instr, Op, Reg, Start};
 pub use flat::FlatEntry;
 pub use form::Form;
 pub use limits::{CONTROLS, EVENTS, INSTRS, LOCALS, TEMPS, TENTHS, limits_hold};
