@@ -4,10 +4,12 @@ use Rattle.ccp_base.specs.Limits.{most_fields, most_controls}
 use Rattle.reg_code.specs.declared.code.Code.{Code}
 use Rattle.reg_code.specs.declared.code.Start.{Start}
 use Rattle.reg_code.specs.AcceptedCode.{sizes_of}
+use Rattle.reg_code.specs.Places.{cwnd_at, rate_at, reports_place, controls_at, all_places}
 use Rattle.reg_code.specs.CodeStep.{reset, reset_of}
 use Rattle.reg_code.specs.CodeStart.{declared_kept}
 use Rattle.fold_machine.specs.Store.{StoreState, slot_words}
-use Rattle.fold_machine.specs.Layout.{words_from, kept_in, HasRoom, KeepsOthers, cwnd_word, rate_word, zero_word, first_field_word}
+use Rattle.fold_machine.specs.Layout.{words_from, kept_in, IsFew, HasRoom, KeepsOthers, cwnd_word, rate_word, zero_word, first_field_word}
+use Rattle.fold_machine.specs.WorkingWords.{kept_on, zero_at}
 use Rattle.fold_machine.specs.KeptWords.{declared_words, reset_words}
 use Rattle.fold_machine.proofs.LayoutLemmas.{from-same}
 
@@ -100,22 +102,21 @@ kept-declared code words now room =
     }
 
 -- the registers that are kept, as a report leaves them
-pub kept-reset : (code : Code) (words : List ℕ) → HasRoom (sizes_of code) words → kept_in (sizes_of code) (reset_words code.controls (first_field_word + length code.reports) (reset_words code.reports first_field_word words)) ≡ reset_of code (kept_in (sizes_of code) words)
-kept-reset code words room =
-    let small_reports : length code.reports ≤ most_fields = room.few.reports in
-    let small_controls : length code.controls ≤ most_controls = room.few.controls in
-    let full : length words ≡ slot_words = room.full in
-    let second : List ℕ = reset_words code.reports first_field_word words in
-    let third : List ℕ = reset_words code.controls (first_field_word + length code.reports) second in
-    let also : length second ≡ slot_words = reset_words-length code.reports first_field_word words ∙ full in
-    let before : (k : ℕ) → k < first_field_word → slice_index third k ≡ slice_index words k =
-    λ k below. reset_words-other code.controls (first_field_word + length code.reports) second k (inl (omega arith)) ∙ reset_words-other code.reports first_field_word words k (inl (omega arith)) in
+pub kept-reset : (code : Code) (words : List ℕ) → IsFew (sizes_of code) → length words ≡ all_places → kept_on (sizes_of code) (reset_words code.controls controls_at (reset_words code.reports reports_place words)) ≡ reset_of code (kept_on (sizes_of code) words)
+kept-reset code words few full =
+    let small_reports : length code.reports ≤ most_fields = few.reports in
+    let small_controls : length code.controls ≤ most_controls = few.controls in
+    let second : List ℕ = reset_words code.reports reports_place words in
+    let third : List ℕ = reset_words code.controls controls_at second in
+    let also : length second ≡ all_places = reset_words-length code.reports reports_place words ∙ full in
+    let before : (k : ℕ) → k < reports_place → slice_index third k ≡ slice_index words k =
+    λ k below. reset_words-other code.controls controls_at second k (inl (omega arith)) ∙ reset_words-other code.reports reports_place words k (inl (omega arith)) in
     λ i. record {
-      reports = (from-same third second first_field_word (length code.reports) (λ k least most. reset_words-other code.controls (first_field_word + length code.reports) second k (inl (omega arith))) ∙ reset_words-from code.reports first_field_word words (omega arith)) i;
-      controls = (reset_words-from code.controls (first_field_word + length code.reports) second (omega arith) ∙ ap (reset code.controls) (from-same second words (first_field_word + length code.reports) (length code.controls) (λ k least most. reset_words-other code.reports first_field_word words k (inr (omega arith))))) i;
-      cwnd = before cwnd_word (omega arith) i;
-      rate = before rate_word (omega arith) i;
-      zero = before zero_word (omega arith) i;
+      reports = (from-same third second reports_place (length code.reports) (λ k least most. reset_words-other code.controls controls_at second k (inl (omega arith))) ∙ reset_words-from code.reports reports_place words (omega arith)) i;
+      controls = (reset_words-from code.controls controls_at second (omega arith) ∙ ap (reset code.controls) (from-same second words controls_at (length code.controls) (λ k least most. reset_words-other code.reports reports_place words k (inr (omega arith))))) i;
+      cwnd = before cwnd_at (omega arith) i;
+      rate = before rate_at (omega arith) i;
+      zero = before zero_at (omega arith) i;
     }
 
 -- nothing but the registers changed
@@ -131,7 +132,3 @@ declared-twice code words now =
     declared-length code.controls (first_field_word + length code.reports) (declared_words code.reports first_field_word (slice_set words zero_word now))
     ∙ declared-length code.reports first_field_word (slice_set words zero_word now)
     ∙ length-set words zero_word now
-
-pub reset-twice : (code : Code) (words : List ℕ) → length (reset_words code.controls (first_field_word + length code.reports) (reset_words code.reports first_field_word words)) ≡ length words
-reset-twice code words =
-    reset_words-length code.controls (first_field_word + length code.reports) (reset_words code.reports first_field_word words) ∙ reset_words-length code.reports first_field_word words

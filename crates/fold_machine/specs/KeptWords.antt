@@ -1,4 +1,4 @@
--- What start values make of the words of the registers.
+-- What start values make of words of registers: those of the slot, and the working words.
 use Rattle.std.specs.Prelude.{ℕ, ◌+◌, if◌then◌else◌, List, [], ◌∷◌, slice_set}
 use Rattle.reg_code.specs.declared.code.Start.{Start}
 

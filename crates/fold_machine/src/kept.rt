@@ -6,7 +6,7 @@ ghost use Rattle.reg_code.specs.CodeStep.{reset_of};
 ghost use Rattle.reg_code.specs.CodeStart.{with_value, with_values, declared_kept};
 ghost use Rattle.reg_code.specs.Places.{all_places, reports_place};
 ghost use Rattle.fold_machine.specs.Store.{slot_words};
-ghost use Rattle.fold_machine.specs.Layout.{HasRoom, KeepsOthers, words_from, kept_in};
+ghost use Rattle.fold_machine.specs.Layout.{HasRoom, IsFew, KeepsOthers, words_from, kept_in};
 ghost use Rattle.fold_machine.specs.KeptWords.{declared_words, reset_words};
 ghost use Rattle.fold_machine.specs.Works.{HaveStartValues, IsReset};
 
@@ -43,16 +43,16 @@ fn declare_from(store: &mut Store, starts: &[Start], first: u32)
     }
 }
 
-/// Writes the start value of each volatile register, from a place on.
-fn reset_from(store: &mut Store, starts: &[Start], first: u32)
-    requires { first + length starts.now ≤ slot_words }
-    ensures { store.new ≡ record store.old { registers = reset_words starts.now first store.old.registers } }
+/// Writes the start value of each volatile register among the working words, from a place on.
+fn reset_from(words: &mut [u64], starts: &[Start], first: usize)
+    requires { first + length starts.now ≤ length words.old }
+    ensures { words.new ≡ reset_words starts.now first words.old }
 {
     let mut at = first;
     let mut left = starts;
     while let Some((start, rest)) = left.split_first() {
         if start.volatile {
-            store.set_register(at, start.value);
+            words[at] = start.value;
         }
         at += 1;
         left = rest;
@@ -74,20 +74,15 @@ pub(crate) fn declare(store: &mut Store, code: &Code, now: u64)
     );
 }
 
-/// Writes the start value of each volatile register.
-#[cold]
-#[inline(never)]
-pub(crate) fn reset(store: &mut Store, code: &Code)
-    requires { HasRoom (sizes_of code.now) store.old.registers }
-    ensures reset { IsReset code.now store.old.registers store.new.registers }
-    ensures others { KeepsOthers store.old store.new }
+/// Writes the start value of each volatile register among the working words.
+pub(crate) fn reset(words: &mut [u64], code: &Code)
+    requires few { IsFew (sizes_of code.now) }
+    requires full { length words.old ≡ all_places }
+    ensures reset { IsReset code.now words.old words.new }
+    ensures full { length words.new ≡ all_places }
 {
-    reset_from(store, code.reports(), REPORTS);
-    reset_from(
-        store,
-        code.controls(),
-        REPORTS + code.reports().len() as u32,
-    );
+    reset_from(words, code.reports(), places::REPORTS);
+    reset_from(words, code.controls(), places::CONTROLS);
 }
 
 /// Writes values in order; a control variable that doesn't exist is ignored.
