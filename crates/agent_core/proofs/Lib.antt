@@ -1,3 +1,4 @@
 -- The lemmas of agent_core, a file a topic.
 pub mod FrameLemmas
+pub mod SegmentLemmas
 pub mod ReplyLemmas

@@ -17,7 +17,7 @@ use Rattle.agent_core.specs.declared.agent.Agent.{Agent}
 use Rattle.agent_core.specs.declared.ticket.Ticket.{Ticket}
 use Rattle.agent_core.specs.Agents.{course_of, replied, values_of}
 use Rattle.agent_core.specs.RoleLaws.{AreRoles}
-use Rattle.agent_core.proofs.ReplyLemmas.{roles-kept}
+use Rattle.agent_core.proofs.ReplyLemmas.{roles-kept, values-kept}
 use Rattle.flow_core.specs.declared.bare.BareParts.{BareParts}
 use Rattle.flow_core.specs.declared.case.Case.{Case}
 use Rattle.flow_core.specs.declared.bare.Issued.{Issued}
@@ -167,6 +167,45 @@ module _ (s : BareParts) (parts : IsBare s) (issued : Issued) (out : out_by s �
 
     pub step-settled : summary_by new ≡ step_answer (over_codes s.case) (summary_by s)
     step-settled = ap summary_by is-new ∙ step-closed obeyed obeys-reply
+
+-- ---- an agent that replies where it stays
+
+-- what is kept, with this agent
+abbrev with_agent : Agent → BareParts → BareParts
+with_agent agent s = record s { agent = agent }
+
+-- obeying a reply changes no agent, whichever is kept
+obeys-with : (s obeyed : BareParts) (agent : Agent) (reply : Reply) (values : List Pair) → ObeysBare (with_agent agent s) obeyed reply values
+    → ObeysBare s (with_agent s.agent obeyed) reply values
+obeys-with s obeyed agent Nothing values obeys = ap (with_agent s.agent) obeys
+obeys-with s obeyed agent (Update cwnd) values obeys = record { frame = ap (with_agent s.agent) obeys.frame; fits = obeys.fits }
+obeys-with s obeyed agent (Change program cwnd cap_value) values obeys =
+    record { machine = obeys.machine; fits = obeys.fits; frame = ap (with_agent s.agent) obeys.frame }
+
+agent-obeyed : (s obeyed : BareParts) (reply : Reply) (values : List Pair) → ObeysBare s obeyed reply values → obeyed.agent ≡ s.agent
+agent-obeyed s obeyed Nothing values obeys = ap (λ (p : BareParts). p.agent) obeys
+agent-obeyed s obeyed (Update cwnd) values obeys = ap (λ (p : BareParts). p.agent) obeys.frame
+agent-obeyed s obeyed (Change program cwnd cap_value) values obeys = ap (λ (p : BareParts). p.agent) obeys.frame
+
+-- the agent after its reply is kept while the reply is obeyed: what is kept after that
+module _ (s : BareParts) (parts : IsBare s) (issued : Issued) (out : out_by s ≡ Some issued)
+    (obeyed new : BareParts) (agent : Agent) (reply : Reply) (reports : ℕ) (turn : (agent, reply) ≡ replied s.agent issued.told)
+    (count : reports ≡ reports_told issued.told) (obeys : ObeysBare (with_agent agent s) obeyed reply (values_of agent reply))
+    (new_is : new ≡ closed_parts obeyed.agent reports obeyed) where
+  obeys-before : ObeysBare s (with_agent s.agent obeyed) reply (values_of s.agent reply)
+  obeys-before =
+      let values : values_of agent reply ≡ values_of s.agent reply =
+      ap (λ (t : Agent × Reply). values_of t.0 reply) turn ∙ values-kept s.agent issued.told reply in
+      subst (ObeysBare s (with_agent s.agent obeyed) reply) values (obeys-with s obeyed agent reply (values_of agent reply) obeys)
+
+  new-before : new ≡ closed_parts agent reports (with_agent s.agent obeyed)
+  new-before = new_is ∙ ap (λ (a : Agent). closed_parts a reports obeyed) (agent-obeyed (with_agent agent s) obeyed reply (values_of agent reply) obeys)
+
+  pub is-consulted : IsBare new
+  is-consulted = is-settled s parts issued out (with_agent s.agent obeyed) new agent reply reports turn count obeys-before new-before
+
+  pub step-consulted : summary_by new ≡ step_answer (over_codes s.case) (summary_by s)
+  step-consulted = step-settled s parts issued out (with_agent s.agent obeyed) new agent reply reports turn count obeys-before new-before
 
 -- ---- by the ticket that is out
 

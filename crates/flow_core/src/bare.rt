@@ -260,6 +260,7 @@ impl BareParts {
         self.record_answer(answer.after(), reports);
     }
 
+    // The agent replies where it stays: it is large, so a copy of it costs as much as many a reply.
     /// Has the agent answer the ticket that is out, and applies its answer.
     fn consult(&mut self)
         requires parts { IsBare self.old }
@@ -268,11 +269,10 @@ impl BareParts {
         ensures case { self.new.case ≡ self.old.case }
         ensures step { summary_by self.new ≡ step_answer (over_codes self.old.case) (summary_by self.old) }
     {
-        let mut after = self.agent;
-        let reply = after.reply(&self.content);
+        let reply = self.agent.reply(&self.content);
         let reports = reports_told(&self.content);
         self.apply_reply(&reply);
-        self.record_answer(&after, reports);
+        self.close_ticket(reports);
     }
 
     /// Records that the ticket that is out was answered, the agent after that, and how many reports the ticket had.
@@ -283,6 +283,16 @@ impl BareParts {
         ensures { self.new ≡ closed_parts after.now reports self.old }
     {
         self.agent = *after;
+        self.close_ticket(reports);
+    }
+
+    /// Records that the ticket that is out was answered, and how many reports it had.
+    fn close_ticket(&mut self, reports: u32)
+        requires answered { self.old.answered < most_acks }
+        requires told { self.old.told < most_acks }
+        requires one { reports ≤ 1 }
+        ensures { self.new ≡ closed_parts self.old.agent reports self.old }
+    {
         self.taken = None;
         self.answered += 1;
         self.told += reports;
