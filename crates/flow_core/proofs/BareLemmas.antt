@@ -138,11 +138,6 @@ pub tells-some : (pool : PoolState) (slots : List ℕ) (untold : Option Notice) 
 tells-some pool slots untold some both =
     true≢false (sym some ∙ (λ i. is_some (next_telling (reports_in pool (both.0 i)) (both.1 i))))
 
--- what is made of a thing is there if and only if that is
-pub some-mapped : {A B : Type 0} (f : A → B) (o : Option A) → is_some o ≡ is_some (option_map f o)
-some-mapped f None = refl
-some-mapped f (Some a) = refl
-
 module _ (s : BareParts) (machine : MachineState) (outbox : OutboxState) (told : Told)
     (framed : machine ≡ record s.machine { further = machine.further })
     (is_told : Some told ≡ next_told (reports_in s.machine.further s.outbox.slots) s.outbox.untold)

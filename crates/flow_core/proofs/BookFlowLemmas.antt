@@ -1,6 +1,6 @@
 -- A flow that keeps what its book needs, after one more letter: it is as after the longer history, and its journal has as
 -- many faults and letters as it says.
-use Rattle.std.specs.Prelude.{◌≡◌, ℕ, ◌+◌, ◌<◌, Bool, true, ◌&&◌, is_some, is_none, if◌then◌else◌, Option, Some, None, option_map, unwrap_or, List, [], ◌∷◌, ◌++◌, length, map, refl}
+use Rattle.std.specs.Prelude.{◌≡◌, ℕ, ◌+◌, ◌<◌, Bool, true, is_some, is_none, if◌then◌else◌, Option, Some, None, option_map, List, [], ◌∷◌, ◌++◌, length, map, refl}
 use Rattle.std.proofs.Common.{ap, sym, ◌∙◌, subst, arith, length-append, append-nil}
 use Rattle.std.proofs.lemmas.Bool.{lt-ltb, le-ltb, true≢false, and_parts}
 use Rattle.std.proofs.lemmas.List.{map-append, length-map}
@@ -36,7 +36,6 @@ use Rattle.flow_core.specs.States.{issued_as, some_count}
 use Rattle.flow_core.specs.Summaries.{Summary, summary, notice_after, outcome_at, step_ack, next_telling, with_told, step_take, can_tell, step_reply, step_turn, step_out, step_answer, may_make}
 use Rattle.flow_core.specs.Bares.{BareState, InRange, told_ticket}
 use Rattle.flow_core.specs.BookFlows.{BookFlowState, book_flow_at, book_flow_of, grown_by, new_notice, answered_line, begun_line, line_after, book_heard, book_taken, book_answered}
-use Rattle.flow_core.specs.ReservedLists.{ReservedState}
 use Rattle.flow_core.specs.Journals.{with_item, with_some, journal_ack, journal_take, journal_answer, journal_line, taken_at, HasSpareRoom, HaveLineRoom, HasLines, book_flow_by, letter_count, IsBookFlow}
 use Rattle.flow_core.proofs.BothLemmas.{none-left}
 use Rattle.flow_core.proofs.RateLemmas.{outcome-rated, step-rated}

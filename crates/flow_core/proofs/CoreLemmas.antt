@@ -1,5 +1,5 @@
 -- One more letter at the word's end: what holds of a flow and its acknowledgements holds of both after it.
-use Rattle.std.specs.Prelude.{◌≡◌, ℕ, ◌+◌, ◌<◌, ◌≤◌, true, ◌&&◌, nat_le, is_some, Option, Some, None, option_map, List, [], ◌∷◌, ◌++◌, length, refl}
+use Rattle.std.specs.Prelude.{◌≡◌, ℕ, ◌+◌, ◌<◌, ◌≤◌, true, ◌&&◌, nat_le, is_some, Option, Some, None, option_map, List, [], ◌∷◌, length, refl}
 use Rattle.std.proofs.Common.{ap, sym, ◌∙◌, subst, arith, length-append}
 use Rattle.std.proofs.lemmas.Bool.{lt-ltb}
 use Rattle.std.proofs.lemmas.List.{map-append}
@@ -10,7 +10,7 @@ use Rattle.flow_core.specs.declared.bare.Issued.{Issued}
 use Rattle.flow_core.specs.declared.book.Book.{Book}
 use Rattle.flow_core.specs.declared.case.Case.{Case}
 use Rattle.flow_core.specs.declared.letter.Letter.{Letter}
-use Rattle.flow_core.specs.declared.letter.Letter.TheVariants.{A, T, C}
+use Rattle.flow_core.specs.declared.letter.Letter.TheVariants.{T, C}
 use Rattle.flow_core.specs.Readings.{over_codes}
 use Rattle.flow_core.specs.World.{Taken, World, after_ack, after_take, after_answer}
 use Rattle.flow_core.specs.Words.{is_legal, legal_over}

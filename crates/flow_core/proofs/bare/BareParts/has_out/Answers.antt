@@ -1,5 +1,5 @@
 use Rattle.std.proofs.Common.{◌∙◌}
-use Rattle.flow_core.proofs.BareLemmas.{some-mapped}
+use Rattle.flow_core.proofs.MappedLemmas.{some-mapped}
 use Rattle.flow_core.proofs.bare.BareParts.has_out.Goals as goal
 
 pub returns : goal.returns

@@ -1,7 +1,5 @@
-use Rattle.std.proofs.Common.{ap, sym, ◌∙◌, subst}
+use Rattle.std.proofs.Common.{ap, ◌∙◌}
 use Rattle.ccp_base.specs.declared.ack.Ack.{Ack}
-use Rattle.link_model.specs.Rated.{rated}
-use Rattle.flow_core.specs.ReadsRates.{case_reads_rates}
 use Rattle.flow_core.specs.BookFlows.{BookFlowState, book_heard}
 use Rattle.flow_core.proofs.BookFlowLemmas.{put-A, whole-A, book-rated}
 use Rattle.flow_core.proofs.book_flow.BookFlow.hear.Goals as goal

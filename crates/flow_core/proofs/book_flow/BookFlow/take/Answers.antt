@@ -1,4 +1,4 @@
-use Rattle.std.proofs.Common.{◌≡◌, true, ap, ◌∙◌}
+use Rattle.std.proofs.Common.{ap, ◌∙◌}
 use Rattle.flow_core.specs.declared.letter.Letter.TheVariants.{T}
 use Rattle.flow_core.specs.Readings.{over_codes}
 use Rattle.flow_core.specs.Summaries.{may_make}
