@@ -88,10 +88,11 @@ impl Trace {
 
     /// How many chances there are from `from` on before `to`, which isn't before it.
     #[inline]
-    pub(crate) fn count_between(&self, from: Chance, to: Chance) -> u128
+    pub(crate) fn count_between(&self, from: Chance, to: Chance) -> u64
         requires from { from.place < length self.now }
         requires to { to.place < length self.now }
         requires order { chance_number self.now from ≤ chance_number self.now to }
+        requires few { chance_number self.now to - chance_number self.now from < 2 ^ 64 }
         ensures { result ≡ chance_number self.now to - chance_number self.now from }
     {
         count_between(self.as_slice(), from, to)
@@ -187,13 +188,17 @@ fn next_chance(times: &[u32], coming: Coming) -> Coming
 
 /// How many chances there are from `from` on before `to`, which isn't before it.
 #[inline]
-fn count_between(times: &[u32], from: Chance, to: Chance) -> u128
+fn count_between(times: &[u32], from: Chance, to: Chance) -> u64
     requires from { from.place < length times.now }
     requires to { to.place < length times.now }
     requires order { chance_number times.now from ≤ chance_number times.now to }
+    requires few { chance_number times.now to - chance_number times.now from < 2 ^ 64 }
     ensures { result ≡ chance_number times.now to - chance_number times.now from }
 {
-    u128::from(to.turn - from.turn) * times.len() as u128 + to.place as u128 - from.place as u128
+    // with the chances of its turn that come before `from`, the count may take more than 64 bits
+    let turns = u128::from(to.turn - from.turn) * times.len() as u128;
+    let count = turns + to.place as u128 - from.place as u128;
+    count as u64
 }
 
 /// The first chance of a trace at or after `at`, in microseconds. Goes straight to the turn of the trace in which that

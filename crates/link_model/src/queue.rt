@@ -11,7 +11,7 @@ pub struct Queue {
     /// The first chance that isn't before that time and that no packet has.
     pub next: Chance,
     /// How many packets have a chance later than that time.
-    pub waiting: u128,
+    pub waiting: u64,
     /// The place in the trace at which a search at a later time looks first.
     pub near: usize,
 }
@@ -23,6 +23,7 @@ impl Trace {
     pub fn queue(&self, next: Chance, now: u64, near: usize) -> Queue
         requires place { next.place < length self.now }
         requires fits { chance_time self.now (chance_number self.now next) < 2 ^ 64 }
+        requires few { chance_number self.now next - first_chance self.now (now + 1) 0 < 2 ^ 64 }
         requires time { now + 1001 < 2 ^ 64 }
         ensures place { result.next.place < length self.now }
         ensures next { chance_number self.now result.next

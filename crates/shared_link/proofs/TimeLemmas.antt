@@ -7,7 +7,7 @@ use Rattle.link_model.specs.declared.chance.Chance.{Chance}
 use Rattle.link_model.specs.Traces.{longest_period, period, IsTrace}
 use Rattle.link_model.specs.Chances.{chance_number, chance_time, first_chance}
 use Rattle.link_model.specs.LinkMoves.{flight_count}
-use Rattle.link_model.proofs.ChanceLemmas.{chance_time_rises, chance_time-suc, le_first_chance, turn_below}
+use Rattle.link_model.proofs.ChanceLemmas.{chance_time_rises, chance_time-suc, first_chance_at, first_chance_le, le_first_chance, turn_below}
 use Rattle.link_model.proofs.LineLemmas.{due_soon}
 use Rattle.link_model.proofs.SendingLemmas.{one_more, no_more}
 use Rattle.shared_link.specs.declared.sending.Sending.{Sending}
@@ -25,6 +25,20 @@ module _ (times : List ℕ) (trace : IsTrace times) where
       let same : k + n + 1 ≡ k + suc n = omega arith in
       let again : chance_time times (k + n + 1) ≡ chance_time times (k + suc n) = ap (chance_time times) same in
       omega (arith, chance_time-more n k, hour, step, again)
+
+  -- the chance after those of the packets that wait
+  pub next_late : (now next : ℕ) → next ≤ first_chance times (now + 1) 0 + most_queue → chance_time times next ≤ now + span
+  next_late now next near =
+      let later = first_chance times (now + 1) 0 in
+      let rises = chance_time_rises times trace next (later + most_queue) near in
+      omega (arith, rises, chance_time-more most_queue later, due_soon times trace (now + 1))
+
+  -- at a later time no more packets wait
+  pub few_later : (now then_ next : ℕ) → now ≤ then_ → next ≤ first_chance times (now + 1) 0 + most_queue → next ≤ first_chance times (then_ + 1) 0 + most_queue
+  few_later now then_ next order near =
+      let later = first_chance times (then_ + 1) 0 in
+      let late : now + 1 ≤ chance_time times later = omega (arith, first_chance_at times trace (then_ + 1) 0) in
+      omega (arith, near, first_chance_le times trace (now + 1) later late)
 
   module _ (sending : Sending) (is : IsSending times sending) (waits : sending.queue.waiting < most_queue) where
     -- the chance that is given next
@@ -47,12 +61,6 @@ module _ (times : List ℕ) (trace : IsTrace times) where
 
     pub own_not_before : sending.now ≤ chance_time times (chance_number times sending.queue.next)
     own_not_before = le_first_chance times trace sending.now (chance_number times sending.queue.next) (omega (arith, is.next))
-
-    pub next_late : (k : ℕ) → k ≡ chance_number times sending.queue.next + 1 → chance_time times k ≤ sending.now + span
-    next_late k same =
-        let own = chance_number times sending.queue.next in
-        let again : chance_time times k ≡ chance_time times (own + 1) = ap (chance_time times) same in
-        omega (arith, again, own_soon, chance_time-suc times trace own, hour)
 
     pub turn_fits : sending.queue.next.turn + 1 < 2 ^ 64
     turn_fits =

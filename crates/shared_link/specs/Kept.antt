@@ -100,7 +100,7 @@ pub record IsSending (times : List ℕ) (sending : Sending) : Type 0 where
   pub next : chance_number times sending.queue.next
       ≡ max (chance_number times sending.next) (first_chance times sending.now 0)
   pub waiting : sending.queue.waiting ≡ chance_number times sending.next - first_chance times (sending.now + 1) 0
-  pub late : chance_time times (chance_number times sending.next) ≤ sending.now + span
+  pub few : sending.queue.waiting ≤ most_queue
 
 -- ---- acknowledging
 
@@ -251,4 +251,5 @@ pub record IsLinkKept (case : SharedCase) (rounds : ℕ) (next : Chance) (flows 
   pub few : rounds ≤ most_rounds
   pub ready : AreReady case rounds flows
   pub place : next.place < length case.trace
-  pub late : chance_time case.trace (chance_number case.trace next) ≤ rounds * case.quantum_us + span
+  pub waiting : chance_number case.trace next
+      ≤ first_chance case.trace (rounds * case.quantum_us + 1) 0 + most_queue

@@ -68,7 +68,7 @@ impl FlowTraffic {
         ensures now { sending.new.now ≡ sending.old.now }
         ensures chance { IsNextChance trace.now link.now room self.old.sent sending.old sending.new }
     {
-        if self.is_next_listed(link) || sending.queue.waiting >= u128::from(room) {
+        if self.is_next_listed(link) || sending.queue.waiting >= u64::from(room) {
             self.lose(link, sending.now);
             return;
         }

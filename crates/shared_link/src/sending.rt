@@ -2,8 +2,8 @@
 ghost use Rattle.std.specs.Prelude.{◌≡◌, ◌+◌, ◌*◌, ◌<◌, ◌≤◌, length};
 ghost use Rattle.ccp_base.specs.Limits.{most_queue, most_rounds, most_quantum_us};
 ghost use Rattle.link_model.specs.Traces.{IsTrace};
-ghost use Rattle.link_model.specs.Chances.{chance_number, chance_time};
-ghost use Rattle.shared_link.specs.Kept.{span, IsSending};
+ghost use Rattle.link_model.specs.Chances.{chance_number, chance_time, first_chance};
+ghost use Rattle.shared_link.specs.Kept.{IsSending};
 
 use link_model::{Chance, Queue, Trace};
 
@@ -28,7 +28,7 @@ impl Sending {
         requires rounds { rounds < most_rounds }
         requires now { now ≤ most_rounds * most_quantum_us }
         requires place { next.place < length trace.now }
-        requires late { chance_time trace.now (chance_number trace.now next) ≤ now + span }
+        requires waiting { chance_number trace.now next ≤ first_chance trace.now (now + 1) 0 + most_queue }
         ensures sending { IsSending trace.now result }
         ensures rounds { result.rounds ≡ rounds }
         ensures now { result.now ≡ now }

@@ -1,5 +1,5 @@
 use Rattle.std.proofs.Common.{arith}
-use Rattle.shared_link.proofs.TimeLemmas.{next_late, turn_fits, after_next, one_waits, none_waits}
+use Rattle.shared_link.proofs.TimeLemmas.{turn_fits, after_next, one_waits, none_waits}
 use Rattle.shared_link.proofs.sending.Sending.serve.Goals as goal
 
 pub after-self-requires-clause-fits : goal.after-self-requires-clause-fits
@@ -19,7 +19,7 @@ returns-then-own-self-clause-sending c =
       place = c.after-self.ensures.place;
       next = after_next times is.valid old is c.requires.waiting c.after-self.result c.after-self.ensures.number;
       waiting = one_waits times is.valid old is c.requires.waiting c.after-self.result c.after-self.ensures.number (omega (arith, c.if-own-self.true, c.requires.own));
-      late = next_late times is.valid old is c.requires.waiting _ c.after-self.ensures.number;
+      few = omega (arith, c.requires.waiting);
     }
 
 pub returns-else-own-self-clause-sending : goal.returns-else-own-self-clause-sending
@@ -35,5 +35,5 @@ returns-else-own-self-clause-sending c =
       place = c.after-self.ensures.place;
       next = after_next times is.valid old is c.requires.waiting c.after-self.result c.after-self.ensures.number;
       waiting = none_waits times is.valid old is c.requires.waiting c.after-self.result c.after-self.ensures.number (omega (arith, c.if-own-self.false, c.requires.own));
-      late = next_late times is.valid old is c.requires.waiting _ c.after-self.ensures.number;
+      few = omega (arith, c.requires.waiting);
     }

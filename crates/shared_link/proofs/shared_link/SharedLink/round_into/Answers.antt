@@ -1,9 +1,10 @@
-use Rattle.std.proofs.Common.{◌≡◌, ℕ, ◌+◌, ◌*◌, ◌<◌, List, length, ap, sym, ◌∙◌, subst, arith, Result, Ok, Err, OnErr}
-use Rattle.ccp_base.specs.Limits.{most_rounds}
-use Rattle.link_model.specs.Chances.{chance_number}
+use Rattle.std.proofs.Common.{◌≡◌, ℕ, ◌+◌, ◌*◌, ◌<◌, ◌≤◌, List, length, ap, sym, ◌∙◌, subst, arith, Result, Ok, Err, OnErr}
+use Rattle.ccp_base.specs.Limits.{most_queue, most_rounds}
+use Rattle.link_model.specs.Chances.{chance_number, first_chance}
 use Rattle.shared_link.specs.SharedRounds.{acks_after}
 use Rattle.shared_link.specs.SharedStanding.{FlowStanding, SharedState, Stands}
 use Rattle.shared_link.specs.Kept.{AreReady, ArePrepared}
+use Rattle.shared_link.proofs.TimeLemmas.{few_later}
 use Rattle.shared_link.proofs.LinkLemmas.{acks_same, stands_after}
 use Rattle.shared_link.proofs.shared_link.SharedLink.round_into.Goals as goal
 
@@ -22,7 +23,7 @@ invariant_of-self c =
       few = kept.few;
       ready = c.make_rooms.ensures.ready;
       place = kept.place;
-      late = kept.late;
+      waiting = kept.waiting;
     }
 
 -- whatever the answer is
@@ -36,6 +37,12 @@ returns-in_err-make_rooms-clause-unchanged c =
     let state : List FlowStanding → SharedState = λ flows.
     record { case = before.case; rounds = before.rounds; chance = chance_number before.case.trace before.next; flows = flows } in
     err_holds c.from_residual-in_err-make_rooms.result (ap state c.make_rooms.ensures.same ∙ c.self.view_is)
+
+pub at-sending-requires-clause-waiting : goal.at-sending-requires-clause-waiting
+at-sending-requires-clause-waiting c =
+    let inside = c.self.inside in
+    let times = inside.case.trace in
+    subst (λ (n : ℕ). chance_number times inside.next ≤ first_chance times (n * inside.case.quantum_us + 1) 0 + most_queue) (sym c.from.ensures) c.self.invariant.waiting
 
 pub send_all-requires-clause-ready : goal.send_all-requires-clause-ready
 send_all-requires-clause-ready c =
@@ -67,14 +74,17 @@ invariant_of-self-2 c =
     let some = subst (λ (l : SharedState). l.rounds < most_rounds) (sym c.self.view_is) c.requires.rounds in
     let now : c.send_all.new.sending.now ≡ c.self.inside.rounds * case.quantum_us =
     c.send_all.ensures.now ∙ c.at-sending.ensures.now ∙ ap (λ (n : ℕ). n * case.quantum_us) c.from.ensures in
-    let late = c.send_all.ensures.sending.late in
+    let is = c.send_all.ensures.sending in
+    let next = chance_number case.trace c.send_all.new.sending.next in
+    let few : next ≤ first_chance case.trace (c.self.inside.rounds * case.quantum_us + 1) 0 + most_queue =
+    subst (λ (n : ℕ). next ≤ first_chance case.trace (n + 1) 0 + most_queue) now (omega (arith, is.waiting, is.few)) in
     record {
       within = kept.within;
       valid = kept.valid;
       few = omega (arith, some);
       ready = c.answer_all.ensures.ready;
       place = c.send_all.ensures.sending.next_place;
-      late = omega (arith, late, now);
+      waiting = few_later case.trace kept.valid (c.self.inside.rounds * case.quantum_us) ((c.self.inside.rounds + 1) * case.quantum_us) next (omega arith) few;
     }
 
 pub returns-clause-case : goal.returns-clause-case
