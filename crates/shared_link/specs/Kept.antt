@@ -19,7 +19,7 @@ use Rattle.shared_link.specs.SharedStanding.{FlowStanding, SharedState, no_fligh
 use Rattle.shared_link.specs.SharedLimits.{IsWithin}
 use Rattle.shared_link.specs.Reached.{Settled}
 
--- what is under way of a flow
+-- what is under way of a flow: a packet that was sent and neither was acknowledged nor is in flight left as lost
 abbrev pub flow_under_way : FlowTraffic → FlowStanding
 flow_under_way flow = record {
   time = flow.time;
@@ -27,7 +27,7 @@ flow_under_way flow = record {
   flight = record { arrivals = flow.flight.items; lost = flow.lost; since = flow.since };
   sent = flow.sent;
   acked = flow.acked;
-  gone = flow.gone;
+  gone = flow.sent - flow.acked - flow.in_flight;
 }
 
 -- how a link of these parts stands; it keeps chances by their turns and places, the standing has their numbers
@@ -60,7 +60,7 @@ pub record IsFlowKept (link : FlowLink) (flow : FlowTraffic) : Type 0 where
   pub arrivals : ArriveWithin horizon flow.flight.items
   pub time : flow.time ≤ horizon
   pub since : flow.since ≤ horizon
-  pub sum : flow.acked + flow.gone + flow.in_flight ≡ flow.sent
+  pub sum : flow.acked + flow.in_flight ≤ flow.sent
 
 -- ---- sending
 

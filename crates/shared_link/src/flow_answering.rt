@@ -143,7 +143,6 @@ impl FlowTraffic {
         let _ = self.flight.pop_front();
         self.in_flight -= arrival.lost + 1;
         self.acked += 1;
-        self.gone += arrival.lost;
         self.time = arrival.at;
         let past = self.past;
         let ack = PackedAck::of_arrival(link, arrival, past, self.in_flight, self.acked, self.sent);
@@ -176,7 +175,6 @@ impl FlowTraffic {
         self.lost = 0;
         self.since = 0;
         self.in_flight = 0;
-        self.gone += lost;
         let ack = PackedAck::of_timeout(link, now, self.past, lost, self.acked, self.sent);
         self.past = ack.past_after();
         self.acks.push_reserved(ack);

@@ -42,7 +42,6 @@ impl FlowTraffic {
             in_flight: 0,
             sent: 0,
             acked: 0,
-            gone: 0,
             passed: 0,
             acks: Vec::new(alloc),
         })

@@ -1,4 +1,6 @@
 //! What is under way of one flow on a shared link, and its counts of packets.
+ghost use Rattle.std.specs.Prelude.{◌≡◌, ◌+◌, ◌-◌, ◌≤◌};
+
 use crate::packed_ack::PackedAck;
 use circular_buffer::HeapCircularBuffer;
 use link_model::{Arrival, Past};
@@ -24,12 +26,20 @@ pub(crate) struct FlowTraffic {
     pub(crate) acked: u64,
     /// How many packets it may have in flight in the present round.
     pub(crate) allowance: u64,
-    /// How many left the flight as lost.
-    pub(crate) gone: u64,
     /// How many of its packets were sent.
     pub(crate) sent: u64,
     /// How many listed losses are known to have numbers below the next packet's.
     pub(crate) passed: usize,
     /// Its acknowledgements in the present round.
     pub(crate) acks: Vec<PackedAck>,
+}
+
+impl FlowTraffic {
+    /// How many packets left the flight as lost.
+    pub(crate) fn gone(&self) -> u64
+        requires { self.now.acked + self.now.in_flight ≤ self.now.sent }
+        ensures { result ≡ self.now.sent - self.now.acked - self.now.in_flight }
+    {
+        self.sent - self.acked - self.in_flight
+    }
 }

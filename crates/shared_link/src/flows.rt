@@ -326,7 +326,7 @@ impl Flows {
             let traffic = &self.traffic[flow];
             sent += traffic.sent;
             acked += traffic.acked;
-            lost += traffic.gone;
+            lost += traffic.gone();
             inflight += traffic.in_flight;
             flow += 1;
         }

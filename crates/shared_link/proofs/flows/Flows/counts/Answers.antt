@@ -9,6 +9,16 @@ use Rattle.shared_link.proofs.KeptLemmas.{kept-count}
 use Rattle.shared_link.proofs.FlowsLemmas.{sum_more, counts_same}
 use Rattle.shared_link.proofs.flows.Flows.counts.Goals as goal
 
+pub gone-lost-requires : goal.gone-lost-requires
+gone-lost-requires c =
+    let case = c.args.case.now in
+    let f = c.loop-flow.flow in
+    let flows = c.args.self.now.traffic.items in
+    let t = c.index-traffic.result.now in
+    let within : f < length flows = omega (arith, c.loop-flow-test.true, c.len.ensures) in
+    let ready = subst (λ (x : FlowTraffic). IsFlowReady (flow_link_at case f) c.args.rounds x) (sym c.index-traffic.ensures) (c.requires.ready.each f t within) in
+    ready.kept.sum
+
 pub loop-flow-preserved : goal.loop-flow-preserved
 loop-flow-preserved c =
     let case = c.args.case.now in
@@ -23,14 +33,14 @@ loop-flow-preserved c =
       omega (arith, within),
       omega (arith, inv.1, sent_few),
       omega (arith, inv.2, sent_few, sum),
-      omega (arith, inv.3, sent_few, sum),
+      omega (arith, inv.3, sent_few, c.gone-lost.ensures),
       omega (arith, inv.4, sent_few, sum),
       λ sent givens follows. sum_more f c.loop-flow.sent t.sent (λ flow. length (own_packets flow sent)) (inv.5 sent givens follows)
           (ap (λ s. s.sent) (ap flow_under_way c.index-traffic.ensures ∙ follows f t within)),
       λ sent givens follows. sum_more f c.loop-flow.acked t.acked (λ flow. acked_of (givens flow)) (inv.6 sent givens follows)
           (ap (λ s. s.acked) (ap flow_under_way c.index-traffic.ensures ∙ follows f t within)),
-      λ sent givens follows. sum_more f c.loop-flow.lost t.gone (λ flow. lost_of (givens flow)) (inv.7 sent givens follows)
-          (ap (λ s. s.gone) (ap flow_under_way c.index-traffic.ensures ∙ follows f t within)),
+      λ sent givens follows. sum_more f c.loop-flow.lost c.gone-lost.result (λ flow. lost_of (givens flow)) (inv.7 sent givens follows)
+          (c.gone-lost.ensures ∙ ap (λ s. s.gone) (ap flow_under_way c.index-traffic.ensures ∙ follows f t within)),
       λ sent givens follows. sum_more f c.loop-flow.inflight t.in_flight (λ flow. length (own_flight flow sent (givens flow))) (inv.8 sent givens follows)
           (ready.kept.count
           ∙ ap (λ s. flight_count s.flight.arrivals s.flight.lost) (ap flow_under_way c.index-traffic.ensures ∙ follows f t within)
