@@ -2,6 +2,7 @@
 mod FlowLemmas
 mod FlowsLemmas
 mod KeptLemmas
+mod LackingLemmas
 mod LinkLemmas
 mod RoundLemmas
 mod SendingLemmas

@@ -5,7 +5,7 @@ use Rattle.ccp_base.specs.Limits.{most_flight, most_queue, most_delay_us, most_r
 use Rattle.link_model.specs.declared.arrival.Arrival.{Arrival}
 use Rattle.link_model.specs.declared.chance.Chance.{Chance}
 use Rattle.link_model.specs.Traces.{longest_period, IsTrace}
-use Rattle.link_model.specs.Chances.{chance_number, chance_time, first_chance}
+use Rattle.link_model.specs.Chances.{chance_number, first_chance}
 use Rattle.link_model.specs.Link.{Fate, Served, GivenAck, chance_past, chances_past, is_marked, fate_of, past_in, arrival_ack_of, timeout_ack_of}
 use Rattle.link_model.specs.LinkMoves.{flight_count}
 use Rattle.link_model.specs.Horizon.{ArriveWithin}

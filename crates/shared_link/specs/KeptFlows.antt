@@ -1,5 +1,5 @@
 -- What is kept of all flows, step by step: who sends next, what is sent in a round, and what is acknowledged.
-use Rattle.std.specs.Prelude.{vec_capacity, ◌≡◌, ◌≢◌, ℕ, ◌<◌, ◌≤◌, Bool, if◌then◌else◌, List, [], length, get_or}
+use Rattle.std.specs.Prelude.{vec_capacity, ◌≡◌, ◌≢◌, ℕ, ◌<◌, ◌≤◌, if◌then◌else◌, List, [], length, get_or, slice_index}
 use Rattle.ccp_base.specs.declared.ack.Ack.{Ack}
 use Rattle.ccp_base.specs.Limits.{most_flight}
 use Rattle.link_model.specs.Link.{GivenAck}
@@ -9,23 +9,39 @@ use Rattle.shared_link.specs.declared.round.Counts.{Counts}
 use Rattle.shared_link.specs.declared.flow_traffic.FlowTraffic.{FlowTraffic}
 use Rattle.shared_link.specs.declared.flows.Flows.{Flows}
 use Rattle.shared_link.specs.declared.sending.Sending.{Sending}
-use Rattle.shared_link.specs.SharedRounds.{Sent, flow_link_at, ask_at, allowed, lacks, some_lacks, with_packet, sending_turn, turns_of, counts_in}
+use Rattle.shared_link.specs.SharedRounds.{Sent, flow_link_at, ask_at, allowed, lacks, with_packet, sending_turn, turns_of, counts_in}
 use Rattle.shared_link.specs.Reached.{Settled}
 use Rattle.shared_link.specs.Kept.{flow_under_way, answered_all, IsFlowReady, most_answers, AnsweredTo, FlowsFollow, Follows}
 
 -- ---- who sends next
 
--- the answer says whether the flow has fewer packets in flight than it may have at the time `now`, whatever was sent
-abbrev pub TellsLack : SharedCase → ℕ → List Ask → List FlowTraffic → ℕ → Bool → Type 0
-TellsLack case now asks flows flow answer =
-    (sent : List Sent) (givens : ℕ → List GivenAck) → FlowsFollow case flows sent givens
-    → answer ≡ lacks (allowed case now asks) givens flow sent
+-- it has fewer packets in flight than it may have
+abbrev pub MaySend : FlowTraffic → Type 0
+MaySend traffic = traffic.in_flight < traffic.allowance
 
--- the answer says whether some flow has fewer packets in flight than it may have at the time `now`, whatever was sent
-abbrev pub TellsSomeLack : SharedCase → ℕ → List Ask → List FlowTraffic → Bool → Type 0
-TellsSomeLack case now asks flows answer =
-    (sent : List Sent) (givens : ℕ → List GivenAck) → FlowsFollow case flows sent givens
-    → answer ≡ some_lacks (allowed case now asks) givens (length case.flows) sent
+-- it hasn't
+abbrev pub HasEnough : FlowTraffic → Type 0
+HasEnough traffic = traffic.allowance ≤ traffic.in_flight
+
+-- a place of a list of flows while a turn goes on: before `kept`, or from `from` on before `count`
+abbrev pub IsPlace : ℕ → ℕ → ℕ → ℕ → Type 0
+IsPlace kept from count place = (place < count) × (kept ≤ place → from ≤ place)
+
+-- the list has, at these places and in order, those of the first flows that have fewer packets in flight than they may
+-- have
+pub record AreLacking (flows : List FlowTraffic) (first : ℕ) (lacking : List ℕ) (kept from count : ℕ) : Type 0 where
+  pub within : (place : ℕ) → IsPlace kept from count place → slice_index lacking place < first
+  pub rises : (place later : ℕ) → IsPlace kept from count place → IsPlace kept from count later → place < later
+      → slice_index lacking place < slice_index lacking later
+  pub each : (place : ℕ) (other : FlowTraffic) → IsPlace kept from count place
+      → MaySend (get_or flows (slice_index lacking place) other)
+  pub others : (flow : ℕ) (other : FlowTraffic) → flow < first
+      → ((place : ℕ) → IsPlace kept from count place → slice_index lacking place ≢ flow)
+      → HasEnough (get_or flows flow other)
+
+-- the list has the flows that have fewer, in order
+abbrev pub ListsLacking : List FlowTraffic → List ℕ → Type 0
+ListsLacking flows lacking = AreLacking flows (length flows) lacking 0 0 (length lacking)
 
 -- the counts are those of what was sent and acknowledged in `rounds` rounds, whatever that was
 abbrev pub TellsCounts : SharedCase → ℕ → Flows → Counts → Type 0

@@ -1,22 +1,23 @@
 //! The traffic of all flows: they send in turn and get their acknowledgements in order, and their packets are counted.
-ghost use Rattle.std.specs.Prelude.{◌≡◌, ◌+◌, ◌*◌, ◌<◌, ◌≤◌, [], length, map, get_or, vec_capacity, false, IfOk, OnOk, IsTrue, IsFalse};
-ghost use Rattle.ccp_base.specs.Limits.{most_flight, most_rounds, most_quantum_us};
+ghost use Rattle.std.specs.Prelude.{◌≡◌, ◌≢◌, ℕ, ◌+◌, ◌*◌, ◌^◌, ◌<◌, ◌≤◌, [], length, map, get_or, vec_capacity, if◌then◌else◌, IfOk, OnOk, IsTrue, IsFalse};
+ghost use Rattle.ccp_base.specs.Limits.{most_flight, most_flows, most_rounds, most_quantum_us};
 ghost use Rattle.link_model.specs.Traces.{IsTrace};
 ghost use Rattle.shared_link.specs.SharedLimits.{IsWithin};
 ghost use Rattle.shared_link.specs.SharedRounds.{flow_link_at, ask_at, allowed};
 ghost use Rattle.shared_link.specs.Kept.{flow_under_way, IsSending, FlowsFollow, AreReady, ArePrepared};
-ghost use Rattle.shared_link.specs.KeptFlows.{TellsLack, TellsSomeLack, TellsCounts, SendsOne, SendsTurn, SendsAll};
+ghost use Rattle.shared_link.specs.KeptFlows.{MaySend, HasEnough, AreLacking, ListsLacking, TellsCounts, SendsOne, SendsTurn, SendsAll};
 ghost use Rattle.shared_link.specs.KeptFlows.{IsReadyAt, HasRoomAt, HaveRoom, AreOthersKept, AnswersAt, AnswersAll};
 
 use crate::flow_sending::PACKETS;
 use crate::flow_traffic::FlowTraffic;
 use crate::packed_ack::PackedAcks;
+use crate::reserving::clear_for;
 use crate::round::{Ask, Counts};
 use crate::sending::Sending;
 use crate::shared_case::{FlowLink, SharedCase};
 use ccp_base::NoMemory;
 use link_model::allowance;
-use std::alloc::Global;
+use std::alloc::{AllocError, Global};
 
 /// What a flow has of its own.
 pub(crate) fn link_of(case: &SharedCase, flow: usize) -> &FlowLink
@@ -50,32 +51,45 @@ fn allowance_of(case: &SharedCase, now: u64, asks: &[Ask], flow: usize) -> u64
     allowance(link.mss, ask.window)
 }
 
-// These four take the flows as a slice: a loop over them then has their place and number at hand, and doesn't read them
-// again after each packet that is put into memory.
-/// Whether a flow has fewer packets in flight than it may have.
-fn lacks(
-    flows: &[FlowTraffic],
-    case: &SharedCase,
-    asks: &[Ask],
-    sending: &Sending,
-    flow: usize,
-) -> bool
-    requires ready { AreReady case.now sending.now.rounds flows.now }
-    requires prepared { ArePrepared case.now sending.now.now asks.now (length flows.now) flows.now }
+/// Appends a flow to the list of those that have fewer packets in flight than they may have, if it is one of them.
+fn list_if_lacking(lacking: &mut Vec<u32>, flows: &[FlowTraffic], flow: usize)
+    requires few { flow < most_flows }
     requires flow { flow < length flows.now }
-    ensures below { IsTrue result → (other : FlowTraffic)
-        → (get_or flows.now flow other).in_flight < (get_or flows.now flow other).allowance }
-    ensures lacks { TellsLack case.now sending.entry.now.now asks.now flows.now flow result }
+    requires room { length lacking.old.items < vec_capacity lacking.old }
+    requires lacking { AreLacking flows.now flow lacking.old.items 0 0 (length lacking.old.items) }
+    ensures lacking { AreLacking flows.now (flow + 1) lacking.new.items 0 0 (length lacking.new.items) }
+    ensures count { length lacking.new.items ≤ length lacking.old.items + 1 }
+    ensures capacity { vec_capacity lacking.new ≡ vec_capacity lacking.old }
 {
-    // for the contract alone: what holds of the flows depends on the case, what they ask for and the rounds so far
-    let _ = case;
-    let _ = asks;
-    let _ = sending;
     let traffic = &flows[flow];
-    traffic.in_flight < traffic.allowance
+    if traffic.in_flight >= traffic.allowance {
+        return;
+    }
+    lacking.push_reserved(flow as u32);
 }
 
-/// A flow sends a packet if it has fewer in flight than it may have. Answers whether it sent one.
+/// Lists the flows that have fewer packets in flight than they may have, in order. Reserves memory if the list has too
+/// little for all flows.
+fn list_lacking(
+    alloc: Global,
+    lacking: &mut Vec<u32>,
+    flows: &[FlowTraffic],
+) -> Result<(), AllocError>
+    requires { length flows.now ≤ most_flows }
+    ensures { OnOk result (ListsLacking flows.now lacking.new.items) }
+{
+    clear_for(alloc, lacking, flows.len())?;
+    let mut flow = 0;
+    while flow < flows.len() {
+        list_if_lacking(lacking, flows, flow);
+        flow += 1;
+    }
+    Ok(())
+}
+
+// These three take the flows and the list as slices: a loop over them then has their places and numbers at hand, and
+// doesn't read them again after each packet that is put into memory.
+/// A flow that has fewer packets in flight than it may have sends one. Answers whether it still has fewer.
 fn send_one(
     flows: &mut [FlowTraffic],
     case: &SharedCase,
@@ -86,62 +100,88 @@ fn send_one(
     requires case { IsWithin case.now }
     requires ready { AreReady case.now sending.old.rounds flows.old }
     requires prepared { ArePrepared case.now sending.old.now asks.now (length flows.old) flows.old }
-    requires asks { length asks.now ≡ length case.now.flows }
     requires flow { flow < length flows.old }
     requires sending { IsSending case.now.trace sending.old }
+    requires lacks { (other : FlowTraffic) → MaySend (get_or flows.old flow other) }
     ensures ready { AreReady case.now sending.new.rounds flows.new }
     ensures prepared { ArePrepared case.now sending.new.now asks.now (length flows.new) flows.new }
     ensures sending { IsSending case.now.trace sending.new }
     ensures rounds { sending.new.rounds ≡ sending.old.rounds }
     ensures now { sending.new.now ≡ sending.old.now }
+    ensures count { length flows.new ≡ length flows.old }
+    ensures others { (at : ℕ) (other : FlowTraffic) → at ≢ flow
+        → get_or flows.new at other ≡ get_or flows.old at other }
     ensures follows { SendsOne case.now asks.now flow flows.old sending.old flows.new sending.new }
-    ensures unchanged { IsFalse result → flows.new ≡ flows.old }
-    ensures lacks { IsFalse result → TellsLack case.now sending.old.now asks.now flows.new flow false }
+    ensures more { IsTrue result → (other : FlowTraffic) → MaySend (get_or flows.new flow other) }
+    ensures enough { IsFalse result → (other : FlowTraffic) → HasEnough (get_or flows.new flow other) }
 {
-    if !lacks(flows, case, asks, sending, flow) {
-        return false;
-    }
-    flows[flow].send(link_of(case, flow), &case.trace, case.queue, sending);
-    true
+    // for the contract alone: what holds of the flows depends on what they ask for
+    let _ = asks;
+    let traffic = &mut flows[flow];
+    traffic.send(link_of(case, flow), &case.trace, case.queue, sending);
+    traffic.in_flight < traffic.allowance
 }
 
-/// Each flow in turn sends a packet if it has fewer in flight than it may have. Answers whether some flow sent one: if
-/// not, none has fewer.
+/// One more than `count` if `more` holds.
+#[inline(always)]
+fn counted(count: usize, more: bool) -> usize
+    requires { count + 1 < 2 ^ 64 }
+    ensures { result ≡ (if more then count + 1 else count) }
+{
+    if more { count + 1 } else { count }
+}
+
+/// Each flow that has fewer packets in flight than it may have sends one, in turn. The list has these flows, in order,
+/// at its first `count` places. Answers how many of them still have fewer: they are at its first places then.
 fn send_turn(
     flows: &mut [FlowTraffic],
     case: &SharedCase,
     asks: &[Ask],
     sending: &mut Sending,
-) -> bool
+    lacking: &mut [u32],
+    count: usize,
+) -> usize
     requires case { IsWithin case.now }
     requires ready { AreReady case.now sending.old.rounds flows.old }
     requires prepared { ArePrepared case.now sending.old.now asks.now (length flows.old) flows.old }
-    requires asks { length asks.now ≡ length case.now.flows }
     requires sending { IsSending case.now.trace sending.old }
+    requires places { count ≤ length lacking.old }
+    requires lacking { AreLacking flows.old (length flows.old) lacking.old 0 0 count }
     ensures ready { AreReady case.now sending.new.rounds flows.new }
     ensures prepared { ArePrepared case.now sending.new.now asks.now (length flows.new) flows.new }
     ensures sending { IsSending case.now.trace sending.new }
     ensures rounds { sending.new.rounds ≡ sending.old.rounds }
     ensures now { sending.new.now ≡ sending.old.now }
     ensures follows { SendsTurn case.now asks.now flows.old sending.old flows.new sending.new }
-    ensures over { IsFalse result → TellsSomeLack case.now sending.old.now asks.now flows.new false }
+    ensures places { result ≤ length lacking.new }
+    ensures lacking { AreLacking flows.new (length flows.new) lacking.new 0 0 result }
 {
-    let mut has_sent = false;
-    let mut flow = 0;
-    while flow < flows.len() {
-        has_sent = send_one(flows, case, asks, sending, flow) || has_sent;
-        flow += 1;
+    let mut kept = 0;
+    let mut place = 0;
+    while place < count {
+        let flow = lacking[place];
+        let more = send_one(flows, case, asks, sending, flow as usize);
+        lacking[kept] = flow;
+        kept = counted(kept, more);
+        place += 1;
     }
-    has_sent
+    kept
 }
 
-/// The flows send in turn until none has fewer packets in flight than it may have.
-fn send_turns(flows: &mut [FlowTraffic], case: &SharedCase, asks: &[Ask], sending: &mut Sending)
+/// The flows send in turn until none has fewer packets in flight than it may have. The list has those that have fewer,
+/// in order.
+fn send_turns(
+    flows: &mut [FlowTraffic],
+    case: &SharedCase,
+    asks: &[Ask],
+    sending: &mut Sending,
+    lacking: &mut [u32],
+)
     requires case { IsWithin case.now }
     requires ready { AreReady case.now sending.old.rounds flows.old }
     requires prepared { ArePrepared case.now sending.old.now asks.now (length flows.old) flows.old }
-    requires asks { length asks.now ≡ length case.now.flows }
     requires sending { IsSending case.now.trace sending.old }
+    requires lacking { ListsLacking flows.old lacking.old }
     ensures ready { AreReady case.now sending.new.rounds flows.new }
     ensures prepared { ArePrepared case.now sending.new.now asks.now (length flows.new) flows.new }
     ensures sending { IsSending case.now.trace sending.new }
@@ -149,11 +189,13 @@ fn send_turns(flows: &mut [FlowTraffic], case: &SharedCase, asks: &[Ask], sendin
     ensures now { sending.new.now ≡ sending.old.now }
     ensures follows { SendsAll case.now asks.now flows.old sending.old flows.new sending.new }
 {
+    let mut count = lacking.len();
     let mut left = PACKETS;
     while left > 0 {
-        if !send_turn(flows, case, asks, sending) {
+        if count == 0 {
             return;
         }
+        count = send_turn(flows, case, asks, sending, lacking, count);
         left -= 1;
     }
 }
@@ -162,6 +204,9 @@ fn send_turns(flows: &mut [FlowTraffic], case: &SharedCase, asks: &[Ask], sendin
 #[derive(Drop)]
 pub(crate) struct Flows {
     pub(crate) traffic: Vec<FlowTraffic>,
+    /// The flows that have fewer packets in flight than they may have as a round's sending begins, in order. It has
+    /// room for all flows, and serves each round.
+    lacking: Vec<u32>,
 }
 
 impl Flows {
@@ -173,6 +218,7 @@ impl Flows {
             self.old.traffic.items }
         requires asks { length asks.now ≡ length case.now.flows }
         requires sending { IsSending case.now.trace sending.old }
+        requires lacking { ListsLacking self.old.traffic.items self.old.lacking.items }
         ensures ready { AreReady case.now sending.new.rounds self.new.traffic.items }
         ensures prepared { ArePrepared case.now sending.new.now asks.now (length self.new.traffic.items)
             self.new.traffic.items }
@@ -182,10 +228,11 @@ impl Flows {
         ensures follows { SendsAll case.now asks.now self.old.traffic.items sending.old
             self.new.traffic.items sending.new }
     {
-        send_turns(self.traffic.as_mut_slice(), case, asks, sending);
+        let lacking = self.lacking.as_mut_slice();
+        send_turns(self.traffic.as_mut_slice(), case, asks, sending, lacking);
     }
 
-    /// The traffic of flows that have sent nothing.
+    /// The traffic of flows that have sent nothing. Reserves memory for the list of those that send, 4 bytes a flow.
     pub(crate) fn new(alloc: Global, case: &SharedCase) -> Result<Flows, NoMemory>
         ensures ready { IfOk result (λ flows. AreReady case.now 0 flows.traffic.items) }
         ensures follows { IfOk result (λ flows. FlowsFollow case.now flows.traffic.items [] (λ flow. [])) }
@@ -196,11 +243,12 @@ impl Flows {
             traffic.push(FlowTraffic::new(alloc)?)?;
             flow += 1;
         }
-        Ok(Flows { traffic })
+        let lacking = Vec::with_capacity(alloc, flow)?;
+        Ok(Flows { traffic, lacking })
     }
 
-    /// Begins the round at `now`, in microseconds: sets how many packets each flow may have in flight, and reserves
-    /// memory for them and for the most acknowledgements that it can get.
+    /// Begins the round at `now`, in microseconds: sets how many packets each flow may have in flight, reserves memory
+    /// for them and for the most acknowledgements that it can get, and lists the flows that have fewer in flight.
     pub(crate) fn make_rooms(
         &mut self,
         alloc: Global,
@@ -215,6 +263,7 @@ impl Flows {
         ensures ready { AreReady case.now rounds self.new.traffic.items }
         ensures prepared { OnOk result
             (ArePrepared case.now now asks.now (length self.new.traffic.items) self.new.traffic.items) }
+        ensures lacking { OnOk result (ListsLacking self.new.traffic.items self.new.lacking.items) }
         ensures same { map flow_under_way self.new.traffic.items ≡ map flow_under_way self.old.traffic.items }
     {
         // for the contract alone: what holds of the flows depends on the rounds so far
@@ -226,6 +275,7 @@ impl Flows {
             self.traffic[flow].make_room(alloc, link_of(case, flow), allowance, left)?;
             flow += 1;
         }
+        list_lacking(alloc, &mut self.lacking, self.traffic.as_slice())?;
         Ok(())
     }
 

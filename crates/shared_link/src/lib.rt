@@ -7,6 +7,7 @@ mod flow_traffic;
 mod flows;
 mod laws;
 mod packed_ack;
+mod reserving;
 mod round;
 mod sending;
 mod shared_case;

@@ -1,5 +1,5 @@
 //! A link that several flows share: a round takes what the flows ask for and gives their acknowledgements.
-ghost use Rattle.std.specs.Prelude.{◌≡◌, ℕ, ◌+◌, ◌<◌, ◌≤◌, List, [], ◌∷◌, ◌++◌, length, vec_capacity, IfOk, OnOk, OnErr};
+ghost use Rattle.std.specs.Prelude.{◌≡◌, ℕ, ◌+◌, ◌<◌, List, [], ◌∷◌, ◌++◌, length, IfOk, OnOk, OnErr};
 ghost use Rattle.ccp_base.specs.Limits.{most_rounds};
 ghost use Rattle.shared_link.specs.declared.round.Ask.{Ask};
 ghost use Rattle.shared_link.specs.SharedLimits.{IsWithin};
@@ -8,12 +8,13 @@ ghost use Rattle.shared_link.specs.SharedStanding.{Stands};
 
 use crate::flows::Flows;
 use crate::packed_ack::PackedAcks;
+use crate::reserving::clear_for;
 use crate::round::{Ask, Counts};
 use crate::sending::Sending;
 use crate::shared_case::SharedCase;
 use ccp_base::{NoMemory, Sequence};
 use link_model::Chance;
-use std::alloc::{AllocError, Global};
+use std::alloc::Global;
 use std::marker::Model;
 
 /// Acknowledgements of flows, in the order of the flows.
@@ -44,8 +45,8 @@ impl Model for SharedLink {
 }
 
 impl SharedLink {
-    /// A link before its first round. Reserves memory for 64 packets in flight of each flow; a round in which a flow
-    /// may have more reserves more.
+    /// A link before its first round. Reserves memory for 64 packets in flight of each flow, and 4 bytes a flow for the
+    /// list of those that send; a round in which a flow may have more packets in flight reserves more.
     pub fn new(alloc: Global, case: SharedCase) -> Result<SharedLink, NoMemory>
         requires { IsWithin case }
         ensures case { IfOk result (λ link. link.case ≡ case) }
@@ -135,16 +136,4 @@ impl SharedLink {
     {
         self.flows.counts(&self.case, self.rounds)
     }
-}
-
-/// Empties a list of answers, and reserves memory for `most` of them if it has too little.
-fn clear_for(alloc: Global, answers: &mut Vec<PackedAcks>, most: usize) -> Result<(), AllocError>
-    ensures none { OnOk result (answers.new.items ≡ []) }
-    ensures places { OnOk result (most ≤ vec_capacity answers.new) }
-{
-    answers.clear();
-    if answers.capacity() < most {
-        *answers = Vec::with_capacity(alloc, most)?;
-    }
-    Ok(())
 }

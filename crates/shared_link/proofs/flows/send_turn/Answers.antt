@@ -1,48 +1,42 @@
-use Rattle.std.proofs.Common.{◌≡◌, ◌+◌, suc, true, false, cond, List, length, subst, ap, sym, ◌∙◌, arith, rules}
-use Rattle.std.specs.Prelude.{IsFalse}
-use Rattle.std.proofs.lemmas.Bool.{or_from}
-use Rattle.shared_link.specs.declared.flow_traffic.FlowTraffic.{FlowTraffic}
-use Rattle.shared_link.specs.SharedRounds.{allowed, lacks, some_lacks, sending_turn, with_packet}
-use Rattle.shared_link.specs.Kept.{Follows, FlowsFollow}
-use Rattle.shared_link.proofs.flows.send_turn.Goals.{then-send_one, else-send_one}
+use Rattle.std.proofs.Common.{ℕ, ◌+◌, ◌<◌, ◌≤◌, set, get_or, subst, sym, arith, rules}
+use Rattle.shared_link.proofs.LackingLemmas.{TurnSoFar, turn-begins, turn-goes_on, turn-ends, lacking-over}
 use Rattle.shared_link.proofs.flows.send_turn.Goals as goal
 
-pub loop-flow-preserved : goal.loop-flow-preserved
-loop-flow-preserved c =
+pub loop-place-init : goal.loop-place-init
+loop-place-init c =
+    turn-begins c.args.case.now c.args.asks.now c.args.flows.now c.args.sending.now c.args.lacking.now c.args.count c.requires.lacking c.requires.places c.requires.ready c.requires.prepared c.requires.sending
+
+pub send_one-more-requires-clause-flow : goal.send_one-more-requires-clause-flow
+send_one-more-requires-clause-flow c =
+    let inside : c.loop-place.place < c.args.count = omega (arith, c.loop-place-test.true) in
+    c.loop-place.invariant.list.within c.loop-place.place (inside, λ above. omega arith)
+
+pub send_one-more-requires-clause-lacks : goal.send_one-more-requires-clause-lacks
+send_one-more-requires-clause-lacks c = λ other.
+    let inside : c.loop-place.place < c.args.count = omega (arith, c.loop-place-test.true) in
+    c.loop-place.invariant.list.each c.loop-place.place other (inside, λ above. omega arith)
+
+pub loop-place-preserved : goal.loop-place-preserved
+loop-place-preserved c =
     let case = c.args.case.now in
-    let flow = c.loop-flow.flow in
-    let now = c.args.sending.now.now in
     let asks = c.args.asks.now in
-    let may = allowed case now asks in
-    let after = c.send_one.new in
-    let one : suc flow ≡ flow + 1 = omega arith in (
-      omega (arith, c.loop-flow-test.true, c.loop-flow.invariant.1.count, c.send_one.ensures.ready.count),
-      c.send_one.ensures.ready,
-      c.send_one.ensures.prepared,
-      c.send_one.ensures.sending,
-      c.send_one.ensures.rounds ∙ c.loop-flow.invariant.4,
-      c.send_one.ensures.now ∙ c.loop-flow.invariant.5,
-      λ sent givens follows.
-          (let so_far = sending_turn case now may givens flow sent in
-          let sent_now = c.send_one.ensures.follows so_far givens (c.loop-flow.invariant.6 sent givens follows) in
-          subst (λ k. Follows case after.flows after.sending (sending_turn case now may givens k sent) givens) one
-          (subst (λ n. Follows case after.flows after.sending (cond (lacks (allowed case n asks) givens flow so_far) (with_packet case n flow so_far) so_far) givens) c.loop-flow.invariant.5 sent_now)),
-      λ none sent givens follows.
-          elim c.if-send_one.branch [
-            | then-send_one w ↦ absurd (let wrong : true ≡ false = sym w.if-send_one.true ∙ sym w.has_sent-is ∙ none in (cc))
-            | else-send_one w ↦
-                (let is : IsFalse c.send_one.result = search rules in
-                let same : after.flows ≡ c.loop-flow.flows = c.send_one.ensures.unchanged is in
-                let before = c.loop-flow.invariant.7 (sym w.has_sent-is ∙ none) sent givens
-                (subst (λ (flows : List FlowTraffic). FlowsFollow case flows sent givens) same follows) in
-                ap (λ k. some_lacks may givens k sent) (sym one)
-                ∙ or_from (lacks may givens flow sent) (some_lacks may givens flow sent) (ap (λ n. lacks (allowed case n asks) givens flow sent) (sym c.loop-flow.invariant.5) ∙ sym (c.send_one.ensures.lacks is sent givens follows)) before)
-          ],
-    )
+    let l = c.loop-place in
+    let inside : l.place < c.args.count = omega (arith, c.loop-place-test.true) in
+    let one = c.send_one-more.ensures in
+    let after = c.send_one-more.new in
+    let own = get_or l.lacking l.place 0 in
+    subst (λ (k : ℕ). TurnSoFar case asks c.args.flows.now c.args.sending.now c.args.lacking.now after.flows after.sending (set l.lacking l.kept own) k (l.place + 1) c.args.count) (sym c.counted-kept.ensures)
+    (turn-goes_on case asks c.args.flows.now c.args.sending.now c.args.lacking.now c.args.count c.requires.lacking l.flows l.sending l.lacking l.kept l.place l.invariant inside after.flows after.sending one.others
+    c.send_one-more.result one.ready one.prepared one.sending one.rounds one.now one.count one.follows (λ is. one.more (search rules)) (λ is. one.enough (search rules)))
 
 pub returns-clause-follows : goal.returns-clause-follows
 returns-clause-follows c = λ sent givens follows.
-    let case = c.args.case.now in
-    let all : c.loop-flow.flow ≡ length case.flows = omega (arith, c.loop-flow-test.false, c.loop-flow.invariant.0, c.loop-flow.invariant.1.count) in
-    subst (λ k. Follows case c.loop-flow.flows c.loop-flow.sending (sending_turn case c.args.sending.now.now (allowed case c.args.sending.now.now c.args.asks.now) givens k sent) givens) all
-    (c.loop-flow.invariant.6 sent givens follows)
+    let l = c.loop-place in
+    let over : c.args.count ≤ l.place = omega (arith, c.loop-place-test.false) in
+    turn-ends c.args.case.now c.args.asks.now c.args.flows.now c.args.sending.now c.args.lacking.now c.args.count c.requires.lacking l.flows l.sending l.lacking l.kept l.place l.invariant over c.requires.ready.count sent givens follows
+
+pub returns-clause-lacking : goal.returns-clause-lacking
+returns-clause-lacking c =
+    let l = c.loop-place in
+    let over : c.args.count ≤ l.place = omega (arith, c.loop-place-test.false) in
+    lacking-over l.flows _ l.lacking l.kept l.place c.args.count l.invariant.order l.invariant.inside over l.invariant.list

@@ -1,4 +1,4 @@
-use Rattle.std.proofs.Common.{ℕ, ◌+◌, ◌≤◌, min, max, length, vec_capacity, subst, ap, sym, ◌∙◌, arith}
+use Rattle.std.proofs.Common.{ℕ, ◌+◌, ◌≤◌, min, max, List, length, vec_capacity, subst, ap, sym, ◌∙◌, arith}
 use Rattle.std.proofs.Math.Seq.{map-set_same}
 use Rattle.std.proofs.lemmas.List.{length-set}
 use Rattle.shared_link.specs.declared.flow_traffic.FlowTraffic.{FlowTraffic}
@@ -6,6 +6,7 @@ use Rattle.shared_link.specs.declared.shared_case.FlowLink.{FlowLink}
 use Rattle.shared_link.specs.declared.round.Ask.{Ask}
 use Rattle.shared_link.specs.SharedRounds.{flow_link_at, ask_at}
 use Rattle.shared_link.specs.Kept.{flow_under_way, IsFlowKept, IsFlowReady}
+use Rattle.shared_link.specs.KeptFlows.{ListsLacking}
 use Rattle.shared_link.proofs.FlowsLemmas.{ready-set, prepared-set}
 use Rattle.shared_link.proofs.flows.Flows.make_rooms.Goals as goal
 
@@ -40,3 +41,7 @@ loop-flow-preserved c =
           (record { allowance = c.in_ok-make_room.ensures.allowance ∙ c.allowance_of-allowance.ensures.value; room = here }),
       map-set_same flow_under_way flows f new old (c.make_room.ensures.standing ∙ ap flow_under_way c.index_mut.ensures.value) ∙ c.loop-flow.invariant.3,
     )
+
+pub returns-clause-lacking : goal.returns-clause-lacking
+returns-clause-lacking c =
+    subst (λ (flows : List FlowTraffic). ListsLacking flows c.list_lacking.new.lacking.items) c.as_slice.ensures.value c.in_ok-list_lacking.ensures
