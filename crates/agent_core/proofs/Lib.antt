@@ -1,4 +1,3 @@
 -- The lemmas of agent_core, a file a topic.
 pub mod FrameLemmas
-pub mod SegmentLemmas
 pub mod ReplyLemmas

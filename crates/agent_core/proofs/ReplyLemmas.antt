@@ -12,7 +12,6 @@ use Rattle.agent_core.specs.declared.agent.Agent.{Agent}
 use Rattle.agent_core.specs.declared.agent.Agent.TheVariants.{Reno, Cubic}
 use Rattle.agent_core.specs.Agents.{course_of, mss_of, replied, cap_of, segment_of, window_pair, control_pair, values_of}
 use Rattle.agent_core.specs.RoleLaws.{AreRoles}
-use Rattle.agent_core.proofs.SegmentLemmas.{reno_mss, cubic_mss}
 
 -- the programs after a report or a fault are those before
 kept_roles : (agent : Agent) (told : Told)
@@ -27,8 +26,8 @@ roles-kept ss ca agent told roles =
     record { ss_same = kept.0 ∙ roles.ss_same; ca_same = kept.1 ∙ roles.ca_same }
 
 kept_mss : (agent : Agent) (told : Told) → mss_of (replied agent told).0 ≡ mss_of agent
-kept_mss (Reno state) told = reno_mss state told
-kept_mss (Cubic state) told = cubic_mss state told
+kept_mss (Reno state) told = reno.kept_mss state told
+kept_mss (Cubic state) told = cubic.kept_mss state told
 
 -- what a reply writes depends on the agent's two programs and on its segment's size alone
 same_values : (one other : Agent) → (course_of one).ss ≡ (course_of other).ss → (course_of one).ca ≡ (course_of other).ca → mss_of one ≡ mss_of other

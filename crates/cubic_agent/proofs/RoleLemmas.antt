@@ -1,4 +1,4 @@
--- CUBIC keeps its two programs, whatever report or fault it gets.
+-- CUBIC keeps its two programs and its segment's size, whatever report or fault it gets.
 use Rattle.std.proofs.Common.{◌≡◌, arith, refl, ◌∙◌}
 use Rattle.ccp_base.specs.declared.course.Course.{Course}
 use Rattle.ccp_base.specs.declared.course.Phase.{Phase}
@@ -36,3 +36,26 @@ told_roles (Fault notice) s = refl
 pub kept_roles : (s : CubicState) (told : Told)
     → (cubic s told).0.course.ss ≡ s.course.ss × (cubic s told).0.course.ca ≡ s.course.ca
 kept_roles s told = grind (arith, told_roles)
+
+-- ---- the segment's size
+
+phase_mss : (mode : Phase) (m : Measurement) (s : CubicState) → (in_phase mode m s).0.mss ≡ s.mss
+phase_mss SlowStart m s = grind arith
+phase_mss Avoidance m s = grind arith
+
+measured_mss : (m : Measurement) (s : CubicState) → (after_measurement m s).0.mss ≡ s.mss
+measured_mss m s = grind (arith, phase_mss)
+
+window_mss : (mode : Phase) (m : Measurement) (s : CubicState) → (window_told mode m s).mss ≡ s.mss
+window_mss SlowStart m s = refl
+window_mss Avoidance m s = refl
+
+told_mss : (told : Told) (s : CubicState) → (after_told told s).0.mss ≡ s.mss
+told_mss (Report report) s =
+    let m = measurement_of (role_of s.course.mode s.course).look report in
+    measured_mss m (window_told s.course.mode m s) ∙ window_mss s.course.mode m s
+told_mss (Fault notice) s = refl
+
+-- the segment's size after a report or a fault is that before
+pub kept_mss : (s : CubicState) (told : Told) → (cubic s told).0.mss ≡ s.mss
+kept_mss s told = grind (arith, told_mss)
