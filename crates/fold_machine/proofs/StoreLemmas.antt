@@ -6,7 +6,7 @@ use Rattle.std.specs.Ordering.{nat_cmp}
 use Rattle.std.specs.Cmp.{nat_cmp_total}
 use Rattle.std.specs.FinMap as map
 use Rattle.std.specs.FinMap.{nat_cmp-IsAntisymmetric}
-use Rattle.slot_pool.specs.Pool.{PoolState, words_at, IsOut, free_of, unused, words_with_one, with_run, ChangesSlot}
+use Rattle.slot_pool.specs.Pool.{PoolState, words_at, IsOut, free_of, unused, words_with_one, with_run, words_with_run, ChangesSlot}
 use Rattle.slot_pool.specs.PoolLaws.{IsOut-kept, free_apart}
 use Rattle.slot_pool.specs.Without.{without, words_at-without_same, words_at-without, without_apart, IsOut-from_without, IsOut-without, free_of-without, ChangesSlot-without, without-changed}
 use Rattle.fold_machine.specs.Store.{StoreState, words_in, further_of, store_of, fresh_store, IsOwned, slot_words}
@@ -84,6 +84,9 @@ words_at-further p a b s apart = words_at-without (without p a) b s apart.second
 
 pub with_word-further : (p : PoolState) (a b s at word : ℕ) → IsApart a b s → words_with_one (further_of p a b) s at word ≡ words_with_one p s at word
 with_word-further p a b s at word apart = ap (option_map (λ words. slice_set words at word)) (words_at-further p a b s apart)
+
+pub run-further : (p : PoolState) (a b s at : ℕ) (run : List ℕ) → IsApart a b s → words_with_run (further_of p a b) s at run ≡ words_with_run p s at run
+run-further p a b s at run apart = ap (option_map (λ words. with_run words at run)) (words_at-further p a b s apart)
 
 pub free_of-further : (p : PoolState) (a b : ℕ) → IsOwned p a b → free_of (further_of p a b) ≡ free_of p
 free_of-further p a b owned = free_of-without (without p a) b (IsOut-without p a b owned.apart owned.second) ∙ free_of-without p a owned.first

@@ -1,7 +1,7 @@
 //! What a machine's holder takes, reads and writes in place: a slot as it is, the last report's words, and the window.
 ghost use Rattle.std.specs.Prelude.{◌≡◌, ◌+◌, ◌≤◌, ◌↔◌, length, None, Some, option_map, IsErr, IfOk, OnOk};
 ghost use Rattle.ccp_base.specs.Limits.{most_fields};
-ghost use Rattle.slot_pool.specs.Pool.{words_at, free_of, ChangesSlot};
+ghost use Rattle.slot_pool.specs.Pool.{words_at, IsOut, free_of, ChangesSlot, WritesRun};
 
 use crate::machine::Machine;
 use crate::places::CWND;
@@ -29,6 +29,31 @@ impl Machine {
         ensures own { self.new ≡ record self.old { further = self.new.further } }
     {
         self.store.take_further_as_is()
+    }
+
+    /// Writes words of a further slot, from a place on. The slot must be out.
+    #[inline(always)]
+    pub fn set_slot_run(&mut self, slot: &Slot, at: u32, run: &[u64])
+        requires out { IsOut self.old.further slot.now }
+        requires within { at + length run.now ≤ self.old.further.words }
+        ensures written { WritesRun self.old.further self.new.further slot.now at run.now }
+        ensures out { IsOut self.new.further slot.now }
+        ensures counted { free_of self.new.further ≡ free_of self.old.further }
+        ensures own { self.new ≡ record self.old { further = self.new.further } }
+    {
+        self.store.set_further_run(slot, at, run);
+    }
+
+    /// Copies the fields of the last report into a further slot, from a place on. The slot must be out.
+    pub fn copy_report(&mut self, slot: &Slot, at: u32)
+        requires out { IsOut self.old.further slot.now }
+        requires within { at + length self.old.report ≤ self.old.further.words }
+        ensures written { WritesRun self.old.further self.new.further slot.now at self.old.report }
+        ensures out { IsOut self.new.further slot.now }
+        ensures counted { free_of self.new.further ≡ free_of self.old.further }
+        ensures own { self.new ≡ record self.old { further = self.new.further } }
+    {
+        self.store.copy_report(self.reported, slot, at);
     }
 
     /// Writes the congestion window, in bytes, and changes nothing else. As `update` with this one value.

@@ -1,7 +1,7 @@
 //! The machine's memory: one pool with the registers, the last report and further slots for its caller.
-ghost use Rattle.std.specs.Prelude.{◌≡◌, ℕ, ◌+◌, ◌<◌, ◌≤◌, ◌≢◌, ◌↔◌, [], length, None, Some, option_map, IsErr, IfOk, OnOk, OnErr, replicate, slice_set};
+ghost use Rattle.std.specs.Prelude.{◌≡◌, ℕ, ◌+◌, ◌<◌, ◌≤◌, ◌≢◌, ◌↔◌, [], length, take, None, Some, option_map, IsErr, IfOk, OnOk, OnErr, replicate, slice_set};
 ghost use Rattle.ccp_base.specs.Limits.{most_slots};
-ghost use Rattle.slot_pool.specs.Pool.{PoolState, words_at, IsOut, free_of, unused, ChangesSlot, TakesZeros, WritesWord, with_run};
+ghost use Rattle.slot_pool.specs.Pool.{PoolState, words_at, IsOut, free_of, unused, ChangesSlot, TakesZeros, WritesWord, WritesRun, with_run};
 ghost use Rattle.fold_machine.specs.Store.{slot_words};
 ghost use Rattle.fold_machine.specs.Store.{StoreState, fresh_store};
 
@@ -147,6 +147,31 @@ impl Store {
         ensures own { self.new ≡ record self.old { further = self.new.further } }
     {
         self.pool.write(slot, at, word);
+    }
+
+    /// Writes words of a further slot, from a place on. The slot must be out.
+    #[inline(always)]
+    pub(crate) fn set_further_run(&mut self, slot: &Slot, at: u32, run: &[u64])
+        requires out { IsOut self.old.further slot.now }
+        requires within { at + length run.now ≤ self.old.further.words }
+        ensures written { WritesRun self.old.further self.new.further slot.now at run.now }
+        ensures out { IsOut self.new.further slot.now }
+        ensures counted { free_of self.new.further ≡ free_of self.old.further }
+        ensures own { self.new ≡ record self.old { further = self.new.further } }
+    {
+        self.pool.write_run(slot, at, run);
+    }
+
+    /// Copies the first words of the last report into a further slot, from a place on. The slot must be out.
+    pub(crate) fn copy_report(&mut self, count: u32, slot: &Slot, at: u32)
+        requires out { IsOut self.old.further slot.now }
+        requires within { at + count ≤ self.old.further.words }
+        ensures written { WritesRun self.old.further self.new.further slot.now at (take count self.old.report) }
+        ensures out { IsOut self.new.further slot.now }
+        ensures counted { free_of self.new.further ≡ free_of self.old.further }
+        ensures own { self.new ≡ record self.old { further = self.new.further } }
+    {
+        self.pool.copy_run(&self.report, count, slot, at);
     }
 }
 

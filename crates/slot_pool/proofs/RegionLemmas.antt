@@ -1,11 +1,12 @@
 -- The words of a slot, when words of a region are written.
-use Rattle.std.proofs.Common.{◌≡◌, ◌≢◌, ℕ, ◌+◌, ◌*◌, ◌<◌, ◌≤◌, List, length, set, take, drop, refl, sym, ap, ◌∙◌, inl, inr, arith, rules}
+use Rattle.std.proofs.Common.{◌≡◌, ◌≢◌, ℕ, ◌+◌, ◌-◌, ◌*◌, ◌<◌, ◌≤◌, List, ◌++◌, length, set, take, drop, append_assoc, refl, sym, ap, ◌∙◌, inl, inr, arith, rules}
 use Rattle.std.proofs.Math.Nat.{mul-le-mul_right}
 use Rattle.std.proofs.Math.Seq.{take-set-lt}
 use Rattle.std.proofs.lemmas.Bool.{cases_order}
-use Rattle.std.proofs.lemmas.List.{drop-set-add, drop-set-lt, take-set-le, drop-take, drop_at, take_at, length-take-le, length-append, length-take, length-drop, same_lists, places}
+use Rattle.std.proofs.lemmas.List.{drop-set-add, drop-set-lt, take-set-le, drop-drop, drop-take, drop_at, take_at, length-take-le, length-append, length-take, length-drop, same_lists, places}
 use Rattle.std.proofs.lemmas.Slice.{take-put_mid_below, drop-put_mid}
 use borrow.Rule.Slice.PartMut.{put_mid}
+use lib.Seq.{paste}
 use Rattle.slot_pool.specs.Pool.{with_run}
 use Rattle.slot_pool.specs.Region.{slot_words_in}
 
@@ -77,6 +78,15 @@ words_in-run_other region words slot at run other room fits apart =
           let order = slots_in_order words slot other above in
           ap (take words) (drop-put_mid (slot * words + at) (length run) region run (other * words) (omega arith) (omega arith) refl)
     ]
+
+-- a copy within a region is such a write
+pub copied-put : (region : List ℕ) (source count start : ℕ) → paste region start (drop source region) (source + count - source) ≡ put_mid start count region (take count (drop source region))
+copied-put region source count start =
+    let many : source + count - source ≡ count = omega arith in
+    let run = take count (drop source region) in
+    ap (paste region start (drop source region)) many
+    ∙ append_assoc (take start region) run (drop (start + count) region)
+    ∙ ap (λ rest. take start region ++ (run ++ rest)) (sym (drop-drop count start region))
 
 -- such a write keeps the length
 pub length-put : (region : List ℕ) (start words : ℕ) (written : List ℕ) → start + words ≤ length region → length written ≡ words → length (put_mid start words region written) ≡ length region

@@ -1,5 +1,5 @@
 -- What a contract sees of a pool.
-use Rattle.std.specs.Prelude.{◌≡◌, ◌≢◌, ℕ, ◌+◌, ◌-◌, List, ◌++◌, length, take, drop, Option, Some, IsSome, option_map, refl, replicate, slice_set}
+use Rattle.std.specs.Prelude.{◌≡◌, ◌≢◌, ℕ, ◌+◌, ◌-◌, List, [], ◌++◌, length, take, drop, Option, Some, IsSome, option_map, unwrap_or, refl, replicate, slice_set}
 use Rattle.std.specs.Ordering.{nat_cmp}
 use Rattle.std.specs.FinMap as map
 use Rattle.std.specs.Coded.{Coded, code_by, coded×, coded_ℕ, coded_list}
@@ -51,6 +51,10 @@ with_run words at run = take at words ++ (run ++ drop (at + length run) words)
 abbrev pub words_with_run : PoolState → ℕ → ℕ → List ℕ → Option (List ℕ)
 words_with_run p slot at run = option_map (λ words. with_run words at run) (words_at p slot)
 
+-- the first words of a slot
+abbrev pub front_at : PoolState → ℕ → ℕ → List ℕ
+front_at p slot count = take count (unwrap_or (words_at p slot) [])
+
 -- the words of a slot, with one written
 abbrev pub words_with_one : PoolState → ℕ → ℕ → ℕ → Option (List ℕ)
 words_with_one p slot at word = option_map (λ words. slice_set words at word) (words_at p slot)
@@ -62,3 +66,7 @@ TakesZeros old new slot = ChangesSlot old new slot (Some (replicate old.words 0)
 -- one word of a slot is written, at a place
 abbrev pub WritesWord : PoolState → PoolState → ℕ → ℕ → ℕ → Type 0
 WritesWord old new slot at word = ChangesSlot old new slot (words_with_one old slot at word)
+
+-- a run of words of a slot is written, from a place on
+abbrev pub WritesRun : PoolState → PoolState → ℕ → ℕ → List ℕ → Type 0
+WritesRun old new slot at run = ChangesSlot old new slot (words_with_run old slot at run)

@@ -1,7 +1,7 @@
 //! The pool of slots: a slot is taken, written, read and given back, and free ones are counted.
 ghost use Rattle.std.specs.Prelude.{◌≡◌, ℕ, ◌+◌, ◌-◌, ◌*◌, ◌^◌, ◌<◌, ◌≤◌, ◌↔◌, [], length, None, Some, option_map, IsErr, IfOk, OnOk, OnErr};
 ghost use Rattle.std.specs.FinMap as map;
-ghost use Rattle.slot_pool.specs.Pool.{words_at, IsOut, free_of, unused, ChangesSlot, TakesZeros, WritesWord, words_with_run};
+ghost use Rattle.slot_pool.specs.Pool.{words_at, IsOut, free_of, unused, ChangesSlot, TakesZeros, WritesWord, WritesRun, front_at};
 
 use crate::region::Region;
 use crate::slot::{Full, Slot};
@@ -124,14 +124,30 @@ impl Pool {
     }
 
     /// Writes words of a slot, from a place on. The slot must be out in this pool.
+    #[inline(always)]
     pub fn write_run(&mut self, slot: &Slot, at: u32, run: &[u64])
         requires out { IsOut self.old slot.now }
         requires within { at + length run.now ≤ self.old.words }
-        ensures written { ChangesSlot self.old self.new slot.now (words_with_run self.old slot.now at run.now) }
+        ensures written { WritesRun self.old self.new slot.now at run.now }
         ensures out { IsOut self.new slot.now }
         ensures counted { free_of self.new ≡ free_of self.old }
     {
         self.region.write_run(slot.number(), at as usize, run);
+    }
+
+    /// Copies the first words of a slot into a slot, from a place on. Both must be out in this pool.
+    pub fn copy_run(&mut self, from: &Slot, count: u32, slot: &Slot, at: u32)
+        requires from_out { IsOut self.old from.now }
+        requires out { IsOut self.old slot.now }
+        requires within { at + count ≤ self.old.words }
+        ensures written { WritesRun self.old self.new slot.now at (front_at self.old from.now count) }
+        ensures out { IsOut self.new slot.now }
+        ensures counted { free_of self.new ≡ free_of self.old }
+    {
+        let source = from.number();
+        let number = slot.number();
+        self.region
+            .copy_run(source, count as usize, number, at as usize);
     }
 
     /// The number of slots that aren't out.

@@ -1,5 +1,5 @@
 //! The words under a pool's slots, read and written by slot number.
-ghost use Rattle.std.specs.Prelude.{◌≡◌, ℕ, ◌+◌, ◌*◌, ◌^◌, ◌<◌, ◌≤◌, length, IfOk, replicate, slice_index, slice_set};
+ghost use Rattle.std.specs.Prelude.{◌≡◌, ℕ, ◌+◌, ◌*◌, ◌^◌, ◌<◌, ◌≤◌, length, take, IfOk, replicate, slice_index, slice_set};
 
 use std::alloc::{AllocError, Global};
 
@@ -64,6 +64,7 @@ impl Region {
     }
 
     /// Writes words of a slot, from a place on.
+    #[inline(always)]
     pub(crate) fn write_run(&mut self, slot: usize, at: usize, run: &[u64])
         requires slot_in { slot < self.old.slots }
         requires run_in { at + length run.now ≤ self.old.words }
@@ -71,6 +72,19 @@ impl Region {
     {
         let start = slot * self.words + at;
         self.items[start..start + run.len()].copy_from_slice(run);
+    }
+
+    /// Copies the first words of a slot into a slot, from a place on.
+    pub(crate) fn copy_run(&mut self, from: usize, count: usize, slot: usize, at: usize)
+        requires from_in { from < self.old.slots }
+        requires slot_in { slot < self.old.slots }
+        requires run_in { at + count ≤ self.old.words }
+        ensures { ChangesWords self.old self.new slot
+            (with_run (words_of self.old slot) at (take count (words_of self.old from))) }
+    {
+        let source = from * self.words;
+        let target = slot * self.words + at;
+        self.items.copy_within(source..source + count, target);
     }
 
     /// Writes 0 into each word of a slot.
