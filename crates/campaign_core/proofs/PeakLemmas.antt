@@ -11,7 +11,7 @@ use Rattle.flow_core.specs.WordLaws.{acks_in}
 use Rattle.flow_core.proofs.WordLemmas.{Agree, take-keeps, answer-keeps, next-given}
 use Rattle.campaign_core.specs.CampaignRow.{window_of, peak_from}
 
-max-assoc : (a b c : ℕ) → max a (max b c) ≡ max (max a b) c
+pub max-assoc : (a b c : ℕ) → max a (max b c) ≡ max (max a b) c
 max-assoc a b c = omega arith
 
 module _ {X : Type 0} (flow : Flow X) where

@@ -45,7 +45,7 @@ answer-acked : (case : LinkCase) (packets : List Packet) (givens : List GivenAck
 answer-acked case packets givens flight (arrives number sent_at chance marked) = omega arith
 answer-acked case packets givens flight all_lost = omega arith
 
-pub timeout-one : (b : Bool) → (if b then 1 else 0) ≤ 1
+timeout-one : (b : Bool) → (if b then 1 else 0) ≤ 1
 timeout-one true = omega arith
 timeout-one false = omega arith
 
@@ -90,7 +90,7 @@ module _ (case : LinkCase) where
   givens-run [] run = omega arith
   givens-run (window ∷ later) run = omega (arith, givens-run later (called case window run))
 
-  roomy-run : (windows : List ℕ) → length windows ≤ 65536 → AreRoomy (sums_of (acks_for_windows case windows))
+  pub roomy-run : (windows : List ℕ) → length windows ≤ 65536 → AreRoomy (sums_of (acks_for_windows case windows))
   roomy-run windows few =
       let begun : Run = record { packets = []; givens = [] } in
       let nothing : Within begun = record { packets = omega arith; lost = omega arith; timeouts = omega arith; acked = omega arith } in

@@ -1,24 +1,16 @@
 -- The parts of a code go into a frame and come back.
-use Rattle.std.proofs.Common.{◌≡◌, ℕ, zero, suc, ◌≤◌, Bool, true, false, List, [], ◌∷◌, refl, sym, ap, ◌∙◌, arith}
-use Rattle.std.specs.Prelude.{map, Option, Some, nat_le, if◌then◌else◌, ◌&&◌, ◌==◌}
+use Rattle.std.proofs.Common.{◌≡◌, ℕ, zero, suc, ◌≤◌, Bool, true, false, List, [], ◌∷◌, refl, ap, ◌∙◌, arith}
+use Rattle.std.specs.Prelude.{map}
 use Rattle.std.specs.List.{AllByRecursion}
-use Rattle.std.proofs.lemmas.Bool.{and_parts, leb-true}
-use Rattle.ccp_base.specs.declared.operation.Op2.{Op2}
 use Rattle.ccp_base.specs.Acknowledgement.{bool_number}
-use Rattle.ccp_base.specs.Limits.{most_operation}
-use Rattle.ccp_base.specs.Operations.{written_as, first_where, operations}
-use Rattle.ccp_base.specs.OperationLaws.{operation-back}
 use Rattle.reg_code.specs.declared.code.Event.{Event}
 use Rattle.reg_code.specs.declared.code.Implicit.{Implicit}
 use Rattle.reg_code.specs.declared.code.Implicit.TheVariants.{Flag, Fall, Send, Micros, Cwnd, Rate}
 use Rattle.reg_code.specs.declared.code.Instr.{Instr}
-use Rattle.reg_code.specs.declared.code.Op.{Op}
-use Rattle.reg_code.specs.declared.code.Op.TheVariants as op
 use Rattle.reg_code.specs.declared.code.Reg.{Reg}
 use Rattle.reg_code.specs.declared.code.Reg.TheVariants as reg
 use Rattle.reg_code.specs.declared.code.Start.{Start}
-use Rattle.reg_code.specs.OperationNumbers.{op_number}
-use Rattle.reg_code.specs.OperationNumberLaws.{op_back, op_again}
+use Rattle.reg_code.specs.OperationNumberLaws.{op_back, op_again, op_low}
 use Rattle.reply_frames.specs.declared.outline.Instruction.{Instruction}
 use Rattle.reply_frames.specs.Frames as parts
 use Rattle.reply_frames.specs.FrameBytes.{StartFits, IsEvent, IsRegister, IsInstruction}
@@ -127,29 +119,6 @@ instructions-again instructions ok = map-again decoded_instr instruction_part Is
 
 -- ---- what is typed has a place in a frame
 
--- a test that each of some operations passes is passed by the one that is found among them
-abbrev passes : (Op2 → Bool) → List Op2 → Bool
-passes pass [] = true
-passes pass (x ∷ xs) = pass x && passes pass xs
-
-found-case : (here : Bool) (pass : Op2 → Bool) (x o : Op2) (rest : Option Op2) (others : Bool) → (if here then Some x else rest) ≡ Some o → pass x && others ≡ true
-    → (rest ≡ Some o → others ≡ true → pass o ≡ true) → pass o ≡ true
-found-case true pass x o rest others found all later = let same : x ≡ o = cc in ap pass (sym same) ∙ (and_parts (pass x) others all).0
-found-case false pass x o rest others found all later = later found (and_parts (pass x) others all).1
-
-found-passes : (test pass : Op2 → Bool) (xs : List Op2) (o : Op2) → first_where test xs ≡ Some o → passes pass xs ≡ true → pass o ≡ true
-found-passes test pass [] o found all = absurd cc
-found-passes test pass (x ∷ xs) o found all = found-case (test x) pass x o (first_where test xs) (passes pass xs) found all (found-passes test pass xs o)
-
-op-low : (o : Op) → op_number o ≤ most_operation
-op-low (op.Pair operation) =
-    leb-true (written_as operation).number most_operation
-    (found-passes (λ o. (written_as o).number == (written_as operation).number) (λ o. nat_le (written_as o).number most_operation) operations operation (operation-back operation) refl)
-op-low op.Bind = omega arith
-op-low op.If = omega arith
-op-low op.NotIf = omega arith
-op-low op.Ewma = omega arith
-
 implicit-low : (which : Implicit) → implicit_number which ≤ 5
 implicit-low Flag = omega arith
 implicit-low Fall = omega arith
@@ -182,4 +151,4 @@ pub events-fit : (events : List Event) → AllByRecursion IsTypedEvent events �
 events-fit events all = map-all event_part IsTypedEvent IsEvent (λ event fits. fits) events all
 
 pub instructions-fit : (instrs : List Instr) → AllByRecursion IsTypedInstr instrs → AllByRecursion IsInstruction (map instruction_part instrs)
-instructions-fit instrs all = map-all instruction_part IsTypedInstr IsInstruction (λ i fits. (op-low i.op, register-fits i.to fits.0, register-fits i.left fits.1, register-fits i.right fits.2)) instrs all
+instructions-fit instrs all = map-all instruction_part IsTypedInstr IsInstruction (λ i fits. (op_low i.op, register-fits i.to fits.0, register-fits i.left fits.1, register-fits i.right fits.2)) instrs all

@@ -1,6 +1,7 @@
 -- How an input of `drive` begins: what is written and refused for its text, for the line `---` and for its scenario.
 use Rattle.std.proofs.Common.{◌≡◌, ◌⊎◌, inl, inr, ◌∙◌, ℕ, ◌+◌, ◌-◌, ◌<◌, ◌≤◌, nat_lt, true, false, cond, Option, Some, None, Result, Ok, Err, List, [], ◌∷◌, ◌++◌, length, arith, ap, sym, subst, refl, append_assoc, append-nil, length-append}
 use Rattle.std.specs.Prelude.{IfOk, IfErr}
+use Rattle.std.proofs.lemmas.List.{nil_from_length}
 use Rattle.std.proofs.lemmas.Option.{same_Some}
 use Rattle.std.proofs.lemmas.Bool.Decides.{nat_tests}
 use Rattle.ccp_base.specs.Limits.{most_input_bytes}
@@ -110,11 +111,7 @@ module _ (bytes text rest : List ℕ) (is : divided bytes ≡ Some (text, rest))
           let one : (front ++ 10 ∷ []) ++ rest ≡ bytes = append_assoc front (10 ∷ []) rest ∙ sym parts in
           let both : ◌≡◌ {A = List ℕ × List ℕ} (first, left ++ rest) (text, rest) = same_Some (first, left ++ rest) (text, rest) (sym (divided-goes-on (front ++ 10 ∷ []) rest first left at) ∙ ap divided one ∙ is) in
           let size : length left + length rest ≡ length rest = sym (length-append left rest) ∙ ap (λ (p : List ℕ × List ℕ). length p.1) both in
-          (ap (λ (p : List ℕ × List ℕ). p.0) both, nothing left (omega (arith, size)))
-        where
-          nothing : (xs : List ℕ) → length xs ≡ 0 → xs ≡ []
-          nothing [] size = refl
-          nothing (x ∷ xs) size = absurd (omega (arith, size))
+          (ap (λ (p : List ℕ × List ℕ). p.0) both, nil_from_length left (omega (arith, size)))
 
       open_front : (front : List ℕ) → bytes ≡ front ++ 10 ∷ rest → (parted : Parted) → divided front ≡ parted → divided front ≡ None
       open_front front parts None at = at

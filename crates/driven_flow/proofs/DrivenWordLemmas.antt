@@ -10,6 +10,7 @@ use Rattle.flow_core.specs.declared.letter.Letter.TheVariants.{A, T, C}
 use Rattle.flow_core.specs.Readings.{Flow}
 use Rattle.flow_core.specs.World.{World, Content, Failure, Taken, Answered, track_of, takeable, with_taken}
 use Rattle.flow_core.specs.Words.{Giving, with_given}
+use Rattle.campaign_core.proofs.PeakLemmas.{max-assoc}
 use Rattle.driven_flow.specs.Driven.{Given, with_values_given, with_answer, answered_by, after_letter, world_from, peak_from}
 use Rattle.driven_flow.specs.DrivenStates.{answers_in}
 
@@ -29,9 +30,6 @@ answers-append [] more = omega arith
 answers-append (A ∷ rest) more = answers-append rest more
 answers-append (T ∷ rest) more = answers-append rest more
 answers-append (C ∷ rest) more = omega (arith, answers-append rest more)
-
-max-assoc : (a b c : ℕ) → max a (max b c) ≡ max (max a b) c
-max-assoc a b c = omega arith
 
 module _ {X : Type 0} (flow : Flow X) (giving : Giving X) where
   -- ---- one more letter

@@ -1,7 +1,6 @@
 -- The lemmas of driven_flow, a file a topic.
 pub mod DrivenWordLemmas
 pub mod PartLemmas
-pub mod RoomLemmas
 pub mod StateLemmas
 pub mod DrivenLiftLemmas
 pub mod DrivenTextLemmas

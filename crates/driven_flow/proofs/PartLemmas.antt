@@ -1,7 +1,7 @@
 -- What is kept of a driven flow after each step is the summary after it.
 use Rattle.std.specs.Prelude.{◌≡◌, ℕ, ◌+◌, ◌-◌, ◌<◌, ◌≤◌, Bool, true, false, nat_lt, ◌&&◌, is_none, is_some, Option, Some, None, unwrap_or, List, [], ◌∷◌, ◌++◌, length, drop, refl}
 use Rattle.driven_flow.specs.Driven.{Codes}
-use Rattle.std.proofs.Common.{ap, sym, ◌∙◌, subst, arith, length-append, append-nil}
+use Rattle.std.proofs.Common.{add-zero, ap, sym, ◌∙◌, subst, arith, length-append, append-nil}
 use Rattle.std.specs.FinMap as map
 use Rattle.std.specs.Ordering.{nat_cmp}
 use Rattle.ccp_base.specs.FieldReg.{Pair}
@@ -31,6 +31,7 @@ use Rattle.flow_core.specs.Readings.{Flow, env_of, by_code}
 use Rattle.flow_core.specs.ReportWords.{report_in}
 use Rattle.flow_core.specs.States.{some_count}
 use Rattle.flow_core.specs.Summaries.{Summary, summary, step_outcome, outcome_at, step_ack, next_telling, with_told, step_take, can_tell}
+use Rattle.flow_core.proofs.BareAnswerLemmas.{told-most}
 use Rattle.flow_core.proofs.BareLemmas.{reports-stored, length-in}
 use Rattle.flow_core.proofs.ValueLemmas.{values-alike}
 use Rattle.driven_flow.specs.declared.case.DrivenCase.{DrivenCase}
@@ -85,9 +86,6 @@ pub can-be : (out : Option Issued) (can : Bool) → (is_none out && can) ≡ tru
 can-be None can may = may
 can-be (Some issued) can may = absurd (let wrong : false ≡ true = may in (cc))
 
-plus-none : (n : ℕ) → n + 0 ≡ n
-plus-none n = omega arith
-
 module _ (programs : Codes) (case : DrivenCase) (s : Parts) (machine : MachineState) (outbox : OutboxState) (told : Told)
     (framed : machine ≡ record s.machine { further = machine.further })
     (is_told : Some told ≡ next_told (reports_in s.machine.further s.outbox.slots) s.outbox.untold)
@@ -129,11 +127,11 @@ module _ (programs : Codes) (case : DrivenCase) (s : Parts) (machine : MachineSt
 -- its parts: the machine runs, what comes of it is noted, and it is counted
 put-parts : (programs : Codes) (case : DrivenCase) (ack : Ack) (outcome : Outcome (FaultKind × ℕ)) (env : Env) (s : Summary)
     → step_outcome (over_codes programs case) ack (outcome, env) s ≡ step_count ack (step_note case.flow ack outcome (step_machine (outcome, env) s))
-put-parts programs case ack quiet env s = λ i. record (step_outcome (over_codes programs case) ack (quiet, env) s) { waiting = append-nil s.waiting i; faults = plus-none s.faults i; held = plus-none s.held i }
-put-parts programs case ack stopped env s = λ i. record (step_outcome (over_codes programs case) ack (stopped, env) s) { waiting = append-nil s.waiting i; faults = plus-none s.faults i; held = plus-none s.held i }
-put-parts programs case ack held env s = λ i. record (step_outcome (over_codes programs case) ack (held, env) s) { waiting = append-nil s.waiting i; faults = plus-none s.faults i }
-put-parts programs case ack (reported fields) env s = λ i. record (step_outcome (over_codes programs case) ack (reported fields, env) s) { faults = plus-none s.faults i; held = plus-none s.held i }
-put-parts programs case ack (failed fault) env s = λ i. record (step_outcome (over_codes programs case) ack (failed fault, env) s) { waiting = append-nil s.waiting i; held = plus-none s.held i }
+put-parts programs case ack quiet env s = λ i. record (step_outcome (over_codes programs case) ack (quiet, env) s) { waiting = append-nil s.waiting i; faults = add-zero s.faults i; held = add-zero s.held i }
+put-parts programs case ack stopped env s = λ i. record (step_outcome (over_codes programs case) ack (stopped, env) s) { waiting = append-nil s.waiting i; faults = add-zero s.faults i; held = add-zero s.held i }
+put-parts programs case ack held env s = λ i. record (step_outcome (over_codes programs case) ack (held, env) s) { waiting = append-nil s.waiting i; faults = add-zero s.faults i }
+put-parts programs case ack (reported fields) env s = λ i. record (step_outcome (over_codes programs case) ack (reported fields, env) s) { faults = add-zero s.faults i; held = add-zero s.held i }
+put-parts programs case ack (failed fault) env s = λ i. record (step_outcome (over_codes programs case) ack (failed fault, env) s) { waiting = append-nil s.waiting i; held = add-zero s.held i }
 
 -- one acknowledgement more, and at most one report or notice, one fault and one held report
 range-more : (case : DrivenCase) (s next : Summary)
@@ -253,10 +251,6 @@ module _ (programs : Codes) (case : DrivenCase) (s : Parts) (parts : IsParts pro
         }
 
 -- ---- an answer
-
-told-most : (told : Told) → reports_told told ≤ 1
-told-most (said.Report report) = omega arith
-told-most (said.Fault notice) = omega arith
 
 -- the counts once the ticket that is out was answered
 range-closed : (case : DrivenCase) (s : Summary) (issued : Issued) → s.out ≡ Some issued → InRange case s → InRange case (step_closed issued s)

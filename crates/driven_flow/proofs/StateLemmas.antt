@@ -19,7 +19,7 @@ use Rattle.link_model.specs.LinkLaws.{acks_of-push}
 use Rattle.link_model.specs.Standing.{Standing, LinkState, Stands}
 use Rattle.campaign_core.specs.declared.sums.Sums.{Sums}
 use Rattle.campaign_core.specs.CampaignRow.{sums_of, sums_with, AreRoomy}
-use Rattle.campaign_core.proofs.SumLemmas.{sums-append, calls-run}
+use Rattle.campaign_core.proofs.SumLemmas.{sums-append, calls-run, roomy-run}
 use Rattle.flow_core.specs.declared.bare.Issued.{Issued}
 use Rattle.flow_core.specs.declared.book.EpochLine.{EpochLine}
 use Rattle.flow_core.specs.declared.book.TicketLine.{TicketLine}
@@ -36,7 +36,7 @@ use Rattle.flow_core.specs.Summaries.{Summary, summary, notice_after, outcome_at
 use Rattle.flow_core.specs.World.{World, Content, Failure, Taken, Answered, track_of, failures_met, after_ack, takeable, with_taken, after_take, notice_of, told_as}
 use Rattle.flow_core.specs.Words.{Giving, from_link}
 use Rattle.flow_core.proofs.LeftLemmas.{left-ack, left-take}
-use Rattle.flow_core.proofs.SummaryLemmas.{summary-ack, summary-take, summary-legal}
+use Rattle.flow_core.proofs.SummaryLemmas.{count-append, summary-ack, summary-take, summary-legal}
 use Rattle.flow_core.proofs.WordLemmas.{take-keeps}
 use Rattle.driven_flow.specs.declared.case.DrivenCase.{DrivenCase}
 use Rattle.driven_flow.specs.declared.journal.Journal.{Journal}
@@ -46,14 +46,9 @@ use Rattle.driven_flow.specs.Driven.{Given, DrivenState, left_of, begun, with_va
 use Rattle.driven_flow.specs.DrivenParts.{summary_by, IsParts, step_values, step_closed, step_out, step_given}
 use Rattle.driven_flow.specs.DrivenJournals.{with_some, journal_ack, journal_take, journal_answer, new_notice, Begins, Records}
 use Rattle.driven_flow.specs.DrivenStates.{answers_in, with_letter, with_given, line_out, line_begun, IsOpened, IsDriven}
-use Rattle.driven_flow.proofs.RoomLemmas.{roomy-run}
 use Rattle.driven_flow.proofs.DrivenWordLemmas.{slice_get-last, answers-append, world-append, peak-append, world-more, peak-more}
 
 -- ---- the summary after an answer
-
-count-append : (lines : List TicketLine) (line : TicketLine) → report_count (lines ++ line ∷ []) ≡ report_count lines + reports_told line.told
-count-append [] line = omega arith
-count-append (first ∷ rest) line = omega (arith, count-append rest line)
 
 module _ {X : Type 0} (flow : Flow X) where
   summary-values : (program : Option ℕ) (values : List Pair) (w : World X)

@@ -1,6 +1,6 @@
 -- How an input ends from where its frames stand.
 use Rattle.std.proofs.Common.{◌≡◌, ◌⊎◌, inl, inr, ℕ, suc, ◌+◌, ◌-◌, ◌<◌, ◌≤◌, Bool, true, false, nat_lt, Ok, Err, List, [], ◌∷◌, ◌++◌, length, take, drop, ap, sym, refl, subst, ◌∙◌, arith, append_assoc, length-append, append-nil}
-use Rattle.std.proofs.lemmas.Bool.Decides.{nat_tests}
+use Rattle.std.proofs.lemmas.Bool.{lt-ltb, le-ltb}
 use Rattle.std.proofs.lemmas.List.{take_all, take-append-le}
 use Rattle.ccp_base.specs.Limits.{most_frame_bytes}
 use Rattle.ccp_base.specs.Outside.{Known, Rose, Takes, IsAtEnd, Appends, AppendsPrefix, Takes-append, no_memory}
@@ -24,12 +24,6 @@ use Rattle.feed_core.proofs.FeedEats.{handed-still, some-used, fed-frame}
 use Rattle.feed_core.proofs.StreamEnds.{appends-all, appends-front, rose-late}
 
 -- ---- ends
-
-pub not-longer : (most n : ℕ) → n ≤ most → nat_lt most n ≡ false
-not-longer most n within = grind (arith, nat_tests)
-
-longer : (most n : ℕ) → most < n → nat_lt most n ≡ true
-longer most n over = grind (arith, nat_tests)
 
 end-whole : (place : ℕ) (rest : List ℕ) (waits : Bool) → length rest ≡ 0 → waits ≡ false → end_from (left place rest) waits false ≡ ends.Whole
 end-whole place [] waits none not = ap (λ (w : Bool). end_from (left place []) w false) not
@@ -110,7 +104,7 @@ module _ {S : Type 0} (start : Start S) (waits : S → Bool) (Takes' : S → Mes
       end-here : made.end bytes ≡ end_from (left eaten rest) (waits state) false
       end-here =
           ap (λ (f : Fed S). end_from f.tail (waits f.state) (nat_lt most (length bytes))) left-here
-          ∙ ap (λ (b : Bool). end_from (left eaten rest) (waits state) b) (not-longer most (length bytes) fits)
+          ∙ ap (λ (b : Bool). end_from (left eaten rest) (waits state) b) (le-ltb most (length bytes) fits)
 
       -- the source was read to its end
       pub ends-last : (now_finished : Type 0) (rb rn wb wm wn : ℕ) → IsAtEnd source' → wb ≤ wm → wm ≤ wn → (end : FeedEnd) → IsLast wm wn is_finished now_finished (waits state) eaten (length rest) end
@@ -184,7 +178,7 @@ module _ {S : Type 0} (start : Start S) (waits : S → Bool) (Takes' : S → Mes
                 let over : most < length (start.before ++ (taken ++ more)) =
                 omega (arith, long, one, all, length-append feeding.bytes piece, length-append taken more, length-append start.before (taken ++ more)) in
                 ap (λ (f : Fed S). end_from f.tail (waits f.state) (nat_lt most (length (start.before ++ (taken ++ more))))) (again more)
-                ∙ ap (λ (b : Bool). end_from (left eaten rest) (waits state) b) (longer most (length (start.before ++ (taken ++ more))) over);
+                ∙ ap (λ (b : Bool). end_from (left eaten rest) (waits state) b) (lt-ltb most (length (start.before ++ (taken ++ more))) over);
             no_more = λ more. answers more ∙ sym here;
           }
 

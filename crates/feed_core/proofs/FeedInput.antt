@@ -1,5 +1,6 @@
 -- What the frames of an input say of a datapath's input.
 use Rattle.std.proofs.Common.{◌≡◌, ◌⊎◌, inl, inr, ℕ, ◌≤◌, Bool, true, false, cond, nat_lt, Option, Some, None, List, [], ◌++◌, length, take, ap, refl, ◌∙◌, arith, length-append, append-nil}
+use Rattle.std.proofs.lemmas.Bool.{le-ltb}
 use Rattle.std.proofs.lemmas.Bool.Decides.{nat_tests}
 use Rattle.ccp_base.specs.Outside.{no_memory}
 use Rattle.ccp_base.specs.Limits.{most_flows, most_input_bytes}
@@ -17,7 +18,6 @@ use Rattle.feed_core.specs.FeedBytes.{Tail, left, answer_bytes, answer_to, feed_
 use Rattle.feed_core.specs.Answering.{Answering, end_from, answering, feeding}
 use Rattle.feed_core.specs.FeedEnds.{answers_written, Stream, IsFed}
 use Rattle.feed_core.specs.FeedLacks.{BeginsTaking, AnswerLacksAt, MakesFlow, TakesMemoryAt, FeedLacksAt}
-use Rattle.feed_core.proofs.FeedEnding.{not-longer}
 
 -- a Create of a flow that isn't there has no answer
 created-quiet : (state : FeedState) (version : Version) (n cwnd : ℕ) (b : Bool) (o : Option Flow) → b ≡ true → o ≡ None
@@ -116,7 +116,7 @@ feeds-input source sink is_finished state (ends.NoMemory no_memory) fed =
       kept = fed.kept;
       cause = record {
         whole = ap (λ (t : Tail). end_from t false (nat_lt most_input_bytes (length fed.front))) fed.cause.whole
-            ∙ ap (λ (b : Bool). end_from (left (length fed.front) []) false b) (not-longer most_input_bytes (length fed.front) short);
+            ∙ ap (λ (b : Bool). end_from (left (length fed.front) []) false b) (le-ltb most_input_bytes (length fed.front) short);
         cause = takes-memory fed.front fed.rest fed.cause.cause;
       };
     }

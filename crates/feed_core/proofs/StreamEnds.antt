@@ -1,5 +1,5 @@
 -- What was taken and written in turn.
-use Rattle.std.proofs.Common.{rules, ◌≡◌, ℕ, ◌+◌, ◌≤◌, Some, None, Result, Ok, Err, OnOk, List, [], ◌++◌, length, take, ap, sym, refl, subst, ◌∙◌, arith, length-append, append-nil}
+use Rattle.std.proofs.Common.{rules, ◌≡◌, ℕ, ◌+◌, ◌≤◌, Some, None, List, [], ◌++◌, length, take, ap, sym, refl, subst, ◌∙◌, arith, length-append, append-nil}
 use Rattle.std.proofs.Math.Seq.{take-append-add}
 use Rattle.std.proofs.lemmas.List.{take_all, take-append-le}
 use Rattle.ccp_base.specs.Outside.{Known, Rose, Takes, Appends, AppendsPrefix, Appends-append}
@@ -34,8 +34,3 @@ appends-front old middle new first next later before front =
 
 pub rose-late : (before middle now : ℕ) → before ≤ middle → Rose middle now → middle ≤ now → Rose before now
 rose-late before middle now first rose grown = search rules
-
--- what follows from what holds after a success
-pub on-success : {A E P Q : Type 0} (result : Result A E) → (P → Q) → OnOk result P → OnOk result Q
-on-success (Ok value) follows holds = follows holds
-on-success (Err fault) follows holds = tt

@@ -54,7 +54,7 @@ summary-obeyed s new agent (Change program cwnd cap_value) obeys =
 
 -- ---- what holds whatever the history
 
-told-most : (told : Told) → reports_told told ≤ 1
+pub told-most : (told : Told) → reports_told told ≤ 1
 told-most (said.Report report) = omega arith
 told-most (said.Fault notice) = omega arith
 

@@ -28,7 +28,7 @@ time-append [] ack = refl
 time-append (first ∷ []) ack = refl
 time-append (first ∷ next ∷ rest) ack = time-append (next ∷ rest) ack
 
-count-append : (lines : List TicketLine) (line : TicketLine) → report_count (lines ++ line ∷ []) ≡ report_count lines + reports_told line.told
+pub count-append : (lines : List TicketLine) (line : TicketLine) → report_count (lines ++ line ∷ []) ≡ report_count lines + reports_told line.told
 count-append [] line = omega arith
 count-append (first ∷ rest) line = omega (arith, count-append rest line)
 

@@ -1,6 +1,7 @@
 -- The first accepted entry that wasn't changed to is the first accepted one past those that the changes went through.
 use Rattle.std.specs.Prelude.{◌≡◌, ◌⊎◌, ℕ, ◌+◌, ◌<◌, ◌≤◌, ◌==◌, zero, suc, Bool, true, false, not, ◌||◌, nat_lt, cond, if◌then◌else◌, Option, Some, None, option_map, Result, Ok, Err, List, [], ◌∷◌, ◌++◌, length, map, drop, slice_get, refl}
 use Rattle.std.specs.List.{position_or_len}
+use Rattle.std.proofs.Math.Bool.{or-false}
 use Rattle.std.proofs.Common.{ap, sym, ◌∙◌, subst, inl, inr, arith}
 use Rattle.std.proofs.lemmas.Bool.{cases_eq, eq-eqb, ne_eqb, true≢false, ltb-true, ltb-false, lt-ltb, le-ltb, or_right}
 use Rattle.std.proofs.lemmas.Option.{none-some, slice_get-map}
@@ -178,10 +179,7 @@ found-from eras from (Ok first ∷ rest) step form is =
 -- ---- epochs go on
 
 was_started-push : (i : ℕ) (eras : List Era) (era : Era) → was_started i (eras ++ era ∷ []) ≡ (was_started i eras || (era.program == i))
-was_started-push i [] era = or-false (era.program == i) where
-  or-false : (b : Bool) → (b || false) ≡ b
-  or-false true = refl
-  or-false false = refl
+was_started-push i [] era = or-false (era.program == i)
 was_started-push i (first ∷ rest) era =
     ap (λ (b : Bool). (first.program == i) || b) (was_started-push i rest era)
     ∙ or_assoc (first.program == i) (was_started i rest) (era.program == i) where

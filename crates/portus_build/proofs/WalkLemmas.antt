@@ -1,6 +1,6 @@
 -- The walks over a text find its program or its first refusal.
-use Rattle.std.proofs.Common.{◌≡◌, ◌∙◌, ℕ, ◌<◌, ◌≤◌, Bool, true, false, if◌then◌else◌, nat_lt, Option, Some, None, Result, Ok, Err, List, length, map, ap, sym, refl, arith}
-use Rattle.std.proofs.lemmas.Bool.Decides.{nat_tests}
+use Rattle.std.proofs.Common.{◌≡◌, ◌∙◌, ℕ, ◌≤◌, Bool, true, false, if◌then◌else◌, nat_lt, Option, Some, None, Result, Ok, Err, List, length, map, ap, sym, refl}
+use Rattle.std.proofs.lemmas.Bool.{ltb-true, ltb-false}
 use Rattle.ccp_base.specs.Limits.{most_text_bytes}
 use Rattle.ccp_base.specs.declared.place.Place.{Place}
 use Rattle.portus_core.specs.Programs.{Form}
@@ -56,16 +56,10 @@ scan_ends : (text : List ℕ) → length text ≤ most_text_bytes → (scanned :
 scan_ends text short (Ok tokens) is = read_ends text tokens short is (read_lexemes unread (map (lexeme_in text) tokens)) refl
 scan_ends text short (Err place) is = (short, stray_of-Err text place is)
 
-past : (most count : ℕ) → nat_lt most count ≡ true → most < count
-past most count is = grind (arith, nat_tests)
-
-within : (most count : ℕ) → nat_lt most count ≡ false → count ≤ most
-within most count is = grind (arith, nat_tests)
-
 text_ends : (text : List ℕ) (long : Bool) → nat_lt most_text_bytes (length text) ≡ long
     → EndsAs text (if long then Err SourceTooLong else forms_in text (scan Gap first_place 0 text))
-text_ends text true is = past most_text_bytes (length text) is
-text_ends text false is = scan_ends text (within most_text_bytes (length text) is) (scan Gap first_place 0 text) refl
+text_ends text true is = ltb-true most_text_bytes (length text) is
+text_ends text false is = scan_ends text (ltb-false most_text_bytes (length text) is) (scan Gap first_place 0 text) refl
 
 -- ---- scoping and compiling
 

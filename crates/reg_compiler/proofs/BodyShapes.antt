@@ -1,8 +1,9 @@
 -- What a body keeps of the source's state: how many fields and control variables there are, and that each local that is
 -- known so far has a value.
-use Rattle.std.proofs.Common.{◌≡◌, refl, ◌∙◌, ℕ, ◌<◌, ◌==◌, nat_lt, not, Bool, true, false, cond, Some, unwrap_or, Result, Ok, Err, List, [], ◌∷◌, ◌++◌, length, arith, length-set, length-append}
+use Rattle.std.proofs.Common.{◌≡◌, refl, ◌∙◌, ℕ, ◌<◌, ◌==◌, nat_lt, not, Bool, true, false, cond, Some, unwrap_or, Ok, List, [], ◌∷◌, ◌++◌, length, arith, length-set, length-append}
 use Rattle.std.proofs.lemmas.Bool.{and_parts, eqb-true, eqb-false}
 use Rattle.std.specs.Prelude.{IfOk}
+use Rattle.std.proofs.lemmas.Result.{IfOk-weaker}
 use Rattle.ccp_base.specs.declared.ack.Ack.{Ack}
 use Rattle.portus_core.specs.declared.env.Env.{Env}
 use Rattle.portus_core.specs.declared.program.Var.{Var}
@@ -103,10 +104,6 @@ Sized-before known (ewma place v weight term) env sized = sized
 Sized-before known zero_micros env sized = sized
 Sized-before known report env sized = sized
 Sized-before known fall env sized = sized
-
-IfOk-weaker : {A F : Type 0} (result : Result A F) (Q P : A → Type 0) → ((a : A) → Q a → P a) → IfOk result Q → IfOk result P
-IfOk-weaker (Ok a) Q P weaker holds = weaker a holds
-IfOk-weaker (Err fault) Q P weaker holds = tt
 
 pub Sized-body : (known : KnownNames) (actions : List Action) (ack : Ack) (going : Going) → Fits known going → IfOk (run_commands actions ack going) (λ after. Sized known after.env)
 Sized-body known [] ack going fits = fits.sized

@@ -1,16 +1,9 @@
 -- The judge's way from one case to the next.
-use Rattle.std.proofs.Common.{◌≡◌, ℕ, suc, ◌+◌, Some, option_map, unwrap_or, List, ◌∷◌, ap, sym, subst, ◌∙◌, arith}
-use Rattle.std.specs.List.{All}
+use Rattle.std.proofs.Common.{◌≡◌, ℕ, ◌+◌, Some, option_map, unwrap_or, List, ◌∷◌, ap, sym, ◌∙◌}
 use Rattle.flow_core.specs.declared.case.Case.{Case}
 use Rattle.reg_compiler.specs.Sources.{Sources}
 use Rattle.run_audit.specs.declared.verdict.Verdict.TheVariants.{No}
 use Rattle.run_audit.specs.PartLeft.{part_left, verdict_on}
-
-pub all_first : (P : Case → Type 0) (cases : List Case) (case : Case) (later : List Case) → cases ≡ case ∷ later → All P cases → P case
-all_first P cases case later is all = let all_of : All P (case ∷ later) = subst (λ (l : List Case). All P l) is all in all_of 0 case (omega arith)
-
-pub all_later : (P : Case → Type 0) (cases : List Case) (case : Case) (later : List Case) → cases ≡ case ∷ later → All P cases → All P later
-all_later P cases case later is all = let all_of : All P (case ∷ later) = subst (λ (l : List Case). All P l) is all in λ k d below. all_of (suc k) d (omega (arith, below))
 
 pub judged_there : (sources : Sources) (cases : List Case) (case : Case) (later : List Case) (count : ℕ) (text left : List ℕ) → cases ≡ case ∷ later → Some left ≡ part_left sources case text
     → verdict_on sources cases count text ≡ verdict_on sources later (count + 1) left

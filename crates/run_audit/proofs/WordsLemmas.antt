@@ -1,5 +1,6 @@
 -- The words are determined by the text, and so is the verdict.
 use Rattle.std.proofs.Common.{◌≡◌, ℕ, ◌≤◌, List, [], ◌∷◌, ◌++◌, refl, ap, sym, ◌∙◌, arith, append_assoc}
+use Rattle.std.proofs.lemmas.List.{append_cancel_left}
 use Rattle.std.proofs.lemmas.Option.{same_Some}
 use Rattle.flow_core.specs.declared.case.Case.{Case}
 use Rattle.flow_core.specs.declared.letter.Letter.{Letter}
@@ -9,17 +10,11 @@ use Rattle.flow_core.specs.LiveText.{flow_from, flow_line, account_of, live_text
 use Rattle.run_audit.specs.declared.verdict.Verdict.{Verdict}
 use Rattle.run_audit.specs.declared.verdict.Verdict.TheVariants.{Yes, No}
 use Rattle.run_audit.specs.Audit.{IsWordOf, AreWordsOf, with_words, IsLiveText, IsNot, IsVerdict}
-use Rattle.run_audit.specs.Fronts.{text_after}
 use Rattle.run_audit.specs.ForcedWord.{forced_word}
 use Rattle.run_audit.specs.Marks.{text_marks}
 use Rattle.run_audit.specs.PartLeft.{body_text}
-use Rattle.run_audit.proofs.FrontLemmas.{after-front}
 use Rattle.run_audit.proofs.LineReadings.{HasPlainNames}
 use Rattle.run_audit.proofs.PartLemmas.{part_of_word, word_read}
-
--- one text follows a front
-same_rest : (front rest other : List ℕ) → front ++ rest ≡ front ++ other → rest ≡ other
-same_rest front rest other is = same_Some rest other (sym (after-front front rest) ∙ ap (text_after front) is ∙ after-front front other)
 
 module _ (sources : Sources) (named : HasPlainNames sources) where
   abbrev body : Case → List Letter → List ℕ
@@ -30,7 +25,7 @@ module _ (sources : Sources) (named : HasPlainNames sources) where
 
   same_bodies : (case : Case) (word other : List Letter) (rest more : List ℕ) → part_of_word sources case word ++ rest ≡ part_of_word sources case other ++ more → body case word ++ rest ≡ body case other ++ more
   same_bodies case word other rest more is =
-      same_rest (line case) (body case word ++ rest) (body case other ++ more)
+      append_cancel_left (line case) (body case word ++ rest) (body case other ++ more)
       (sym (append_assoc (line case) (body case word) rest) ∙ is ∙ append_assoc (line case) (body case other) more)
 
   same_word : (case : Case) (word other : List Letter) (rest more : List ℕ) → IsWordOf sources case word → IsWordOf sources case other
@@ -43,7 +38,7 @@ module _ (sources : Sources) (named : HasPlainNames sources) where
   same_after : (case : Case) (word other : List Letter) (rest more : List ℕ) → word ≡ other
       → part_of_word sources case word ++ rest ≡ part_of_word sources case other ++ more → rest ≡ more
   same_after case word other rest more e same =
-      same_rest (part_of_word sources case other) rest more (sym (ap (λ w. part_of_word sources case w ++ rest) e) ∙ same)
+      append_cancel_left (part_of_word sources case other) rest more (sym (ap (λ w. part_of_word sources case w ++ rest) e) ∙ same)
 
   pub same_words : (cases : List Case) (words others : List (List Letter)) (rest more : List ℕ) → AreWordsOf sources cases words → AreWordsOf sources cases others
       → live_text sources (with_words cases words) ++ rest ≡ live_text sources (with_words cases others) ++ more → words ≡ others

@@ -1,6 +1,6 @@
 -- What is kept after an acknowledgement is that of the state after it.
 use Rattle.std.specs.Prelude.{◌≡◌, ℕ, ◌+◌, List, [], ◌∷◌, ◌++◌, map, refl}
-use Rattle.std.proofs.Common.{ap, sym, ◌∙◌, subst, arith, append-nil}
+use Rattle.std.proofs.Common.{add-zero, ap, sym, ◌∙◌, subst, arith, append-nil}
 use Rattle.ccp_base.specs.declared.ack.Ack.{Ack}
 use Rattle.ccp_base.specs.declared.place.Place.{Place}
 use Rattle.link_model.specs.Standing.{LinkState, Stands}
@@ -19,17 +19,14 @@ use Rattle.source_flow.specs.SourceStates.{flow_over_sources, summary_in, IsAt}
 use Rattle.source_flow.specs.SourceSteps.{RecordsOutcome}
 use Rattle.source_flow.proofs.EpochLineLemmas.{epoch_lines-last}
 
-plus-none : (n : ℕ) → n + 0 ≡ n
-plus-none n = omega arith
-
 -- an outcome's parts: the program has run, what comes of it is recorded, and the acknowledgement is counted
 outcome-parts : (flow : Flow Place) (ack : Ack) (outcome : Outcome Cause) (env : Env) (s : Summary)
     → step_count ack (step_note flow ack outcome (step_machine (outcome, env) s)) ≡ step_outcome flow ack (outcome, env) s
-outcome-parts flow ack quiet env s = λ i. record (step_outcome flow ack (quiet, env) s) { waiting = sym (append-nil s.waiting) i; faults = sym (plus-none s.faults) i; held = sym (plus-none s.held) i }
-outcome-parts flow ack stopped env s = λ i. record (step_outcome flow ack (stopped, env) s) { waiting = sym (append-nil s.waiting) i; faults = sym (plus-none s.faults) i; held = sym (plus-none s.held) i }
-outcome-parts flow ack held env s = λ i. record (step_outcome flow ack (held, env) s) { waiting = sym (append-nil s.waiting) i; faults = sym (plus-none s.faults) i }
-outcome-parts flow ack (reported fields) env s = λ i. record (step_outcome flow ack (reported fields, env) s) { faults = sym (plus-none s.faults) i; held = sym (plus-none s.held) i }
-outcome-parts flow ack (failed fault) env s = λ i. record (step_outcome flow ack (failed fault, env) s) { waiting = sym (append-nil s.waiting) i; held = sym (plus-none s.held) i }
+outcome-parts flow ack quiet env s = λ i. record (step_outcome flow ack (quiet, env) s) { waiting = sym (append-nil s.waiting) i; faults = sym (add-zero s.faults) i; held = sym (add-zero s.held) i }
+outcome-parts flow ack stopped env s = λ i. record (step_outcome flow ack (stopped, env) s) { waiting = sym (append-nil s.waiting) i; faults = sym (add-zero s.faults) i; held = sym (add-zero s.held) i }
+outcome-parts flow ack held env s = λ i. record (step_outcome flow ack (held, env) s) { waiting = sym (append-nil s.waiting) i; faults = sym (add-zero s.faults) i }
+outcome-parts flow ack (reported fields) env s = λ i. record (step_outcome flow ack (reported fields, env) s) { faults = sym (add-zero s.faults) i; held = sym (add-zero s.held) i }
+outcome-parts flow ack (failed fault) env s = λ i. record (step_outcome flow ack (failed fault, env) s) { waiting = sym (append-nil s.waiting) i; held = sym (add-zero s.held) i }
 
 module _ (source : SourceCase) (s : State) (link : LinkState) (ack : Ack) (outcome : Outcome Cause) (env spare : Env) (put : State)
     (met : outcome_at (flow_over_sources source) ack (summary_in s) ≡ (outcome, env)) where

@@ -18,17 +18,13 @@ use Rattle.flow_core.specs.States.{issued_as, some_count}
 use Rattle.flow_core.specs.Books.{ticket_line, epoch_line}
 use Rattle.flow_core.specs.LiveText.{reports_told, report_count}
 use Rattle.flow_core.specs.Summaries.{Summary, summary, step_reply, step_turn, step_out, step_answer}
-use Rattle.flow_core.proofs.SummaryLemmas.{summary-answer}
+use Rattle.flow_core.proofs.SummaryLemmas.{count-append, summary-answer}
 use Rattle.source_flow.specs.declared.source_case.SourceCase.{SourceCase}
 use Rattle.source_flow.specs.declared.state.State.{State}
 use Rattle.source_flow.specs.SourceAccounts.{failure_of}
 use Rattle.source_flow.specs.SourceStates.{flow_over_sources, summary_in, IsAt, IsSourceSound}
 use Rattle.source_flow.specs.SourceSteps.{answered_line, epochs_started, Obeys}
 use Rattle.source_flow.proofs.EpochLineLemmas.{epoch_lines-last, epoch_lines-more}
-
-count-append : (lines : List TicketLine) (line : TicketLine) → report_count (lines ++ line ∷ []) ≡ report_count lines + reports_told line.told
-count-append [] line = omega arith
-count-append (first ∷ rest) line = omega (arith, count-append rest line)
 
 -- ---- what an answer appends to the lists of a state
 

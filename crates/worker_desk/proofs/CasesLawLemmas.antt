@@ -1,6 +1,8 @@
 -- The law of a campaign's workers: which cases are run, in which order, and when the gate is passed.
 use Rattle.std.proofs.Common.{◌≡◌, ◌==◌, ℕ, zero, suc, ◌+◌, ◌*◌, ◌-◌, ◌%◌, ◌<◌, Bool, true, false, cond, ◌&&◌, nat_lt, Some, None, List, [], ◌∷◌, ◌++◌, length, slice_get, refl, sym, ap, ◌∙◌, add-one, arith}
 use Rattle.std.specs.Prelude.{Option}
+use Rattle.std.proofs.Math.Bool.{and-true}
+use Rattle.std.proofs.lemmas.Bool.{and_parts, and_right}
 use Rattle.std.proofs.lemmas.Bool.Decides.{nat_tests}
 use Rattle.std.proofs.lemmas.Nat.{mod_below}
 use Rattle.ccp_base.specs.declared.gate.Point.TheVariants.{InCase, AfterCase}
@@ -59,10 +61,6 @@ and-more : (a a' b c : Bool) → (a && b) ≡ true → (a ≡ true → a' ≡ tr
 and-more true a' b c both more then = ap (λ (x : Bool). x && c) (more refl) ∙ then both
 and-more false a' b c both more then = absurd (let wrong : false ≡ true = both in (cc))
 
-and-right : (a b : Bool) → (a && b) ≡ true → b ≡ true
-and-right true b both = both
-and-right false b both = absurd (let wrong : false ≡ true = both in (cc))
-
 below-with : (bound : ℕ) (here : Bool) (numbers : List ℕ) → are_below bound numbers ≡ true
     → are_below (suc bound) (numbers ++ cond here (bound ∷ []) []) ≡ true
 below-with bound true [] below =
@@ -88,7 +86,7 @@ rising-with last false (number ∷ []) rising below = refl
 rising-with last here (number ∷ next ∷ rest) rising below =
     and-then (nat_lt number next) (is_rising (next ∷ rest)) (is_rising (next ∷ (rest ++ cond here (last ∷ []) []))) rising
     (λ others. rising-with last here (next ∷ rest) others
-    (and-right (nat_lt number last) (are_below last (next ∷ rest)) below))
+    (and_parts (nat_lt number last) (are_below last (next ∷ rest)) below).1)
 
 rising-all : (worker workers cases : ℕ) → is_rising (cases_of_worker worker workers cases) ≡ true
 rising-all worker workers zero = refl
@@ -175,19 +173,11 @@ one-worker-more true number last =
     one-more number last (nat_lt number last) (number == last) (nat_lt number (suc last)) refl refl refl
 one-worker-more false number last = refl
 
-and-false : (a : Bool) → (a && false) ≡ false
-and-false true = refl
-and-false false = refl
-
-and-true : (a : Bool) → (a && true) ≡ a
-and-true true = refl
-and-true false = refl
-
 times-below : (workers cases case worker : ℕ)
     → times case (runs (events_below workers cases worker)) ≡ cond (nat_lt case cases && nat_lt (case % workers) worker) 1 0
 times-below workers cases case zero =
     let none : nat_lt (case % workers) 0 ≡ false = grind (arith, nat_tests) in
-    sym (ap (λ (x : Bool). cond x 1 0) (ap (λ (x : Bool). nat_lt case cases && x) none ∙ and-false (nat_lt case cases)))
+    sym (ap (λ (x : Bool). cond x 1 0) (ap (λ (x : Bool). nat_lt case cases && x) none ∙ and_right (nat_lt case cases) false refl))
 times-below workers cases case (suc worker) =
     let first : List CaseEvent = events_below workers cases worker in
     let next : List CaseEvent = run_events worker (cases_of_worker worker workers cases) in

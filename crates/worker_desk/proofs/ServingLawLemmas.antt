@@ -1,5 +1,6 @@
 -- The law of a datapath worker: which flows are asked, in which order, and which nudges are sent.
 use Rattle.std.proofs.Common.{◌≡◌, ◌==◌, ℕ, zero, suc, ◌+◌, ◌%◌, ◌≤◌, Bool, true, false, cond, ◌&&◌, nat_lt, None, List, [], ◌∷◌, ◌++◌, length, refl, sym, ap, ◌∙◌, subst, arith}
+use Rattle.std.proofs.lemmas.Bool.{eq-eqb}
 use Rattle.std.proofs.lemmas.Bool.Decides.{nat_tests}
 use Rattle.worker_desk.specs.declared.event.Heard.{Heard}
 use Rattle.worker_desk.specs.declared.event.Heard.TheVariants.{Quiet, Reported, Faulted, Ended}
@@ -221,13 +222,10 @@ turns-row flow other (head ∷ row) (answer ∷ answers) (ask ∷ first) middle 
 
 -- ---- nudges
 
-pub same-number : (n : ℕ) → (n == n) ≡ true
-same-number n = grind (arith, nat_tests)
-
 nudges-turn : (worker flow : ℕ) (answer : Heard) (rest : List Event) → nudges_well None (turn worker flow answer ++ rest) ≡ nudges_well None rest
 nudges-turn worker flow Quiet rest = refl
-nudges-turn worker flow Reported rest = ap (λ (due : Bool). due && nudges_well None rest) (same-number flow)
-nudges-turn worker flow Faulted rest = ap (λ (due : Bool). due && nudges_well None rest) (same-number flow)
+nudges-turn worker flow Reported rest = ap (λ (due : Bool). due && nudges_well None rest) (eq-eqb flow flow refl)
+nudges-turn worker flow Faulted rest = ap (λ (due : Bool). due && nudges_well None rest) (eq-eqb flow flow refl)
 nudges-turn worker flow Ended rest = refl
 
 nudges-served : (worker : ℕ) (row : List ℕ) (answers : List Heard) → nudges_well None (served worker row answers) ≡ true
@@ -265,7 +263,7 @@ one-more worker datapaths number flow true is =
     let same : number ≡ flow = grind (arith, nat_tests) in
     subst (λ (k : ℕ). one (is_of worker datapaths number k) + one (((number % datapaths) == worker) && (number == k)) ≡ one (is_of worker datapaths (suc number) k)) same
     (after-same (nat_lt number number) (nat_lt number (suc number)) (number == number) ((number % datapaths) == worker)
-    (grind (arith, nat_tests)) (grind (arith, nat_tests)) (same-number number))
+    (grind (arith, nat_tests)) (grind (arith, nat_tests)) (eq-eqb number number refl))
 one-more worker datapaths number flow false is =
     after-other (nat_lt flow number) ((flow % datapaths) == worker) ((number % datapaths) == worker) (number == flow) is
     ∙ ap (λ (below : Bool). one (below && ((flow % datapaths) == worker))) (sym (below-other flow number (nat_lt flow number) refl is))

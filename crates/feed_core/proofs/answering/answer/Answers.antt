@@ -1,10 +1,10 @@
 use Rattle.std.proofs.Common.{◌≡◌, inl, inr, ◌∙◌, List, ℕ, OnOk, IfErr, ap, sym, subst}
+use Rattle.std.proofs.lemmas.Result.{on_ok_weaker}
 use Rattle.ccp_base.specs.Outside.{Appends}
 use Rattle.ccp_messages.specs.Messages.{frame_bytes}
 use Rattle.feed_core.specs.FeedBytes.{answer_bytes, answer_to}
 use Rattle.feed_core.specs.FeedStops.{StopsAnswer}
 use Rattle.feed_core.proofs.AnswerParts.{answer-part}
-use Rattle.feed_core.proofs.StreamEnds.{on-success}
 use Rattle.feed_core.proofs.answering.answer.Goals as goal
 
 pub returns-in-Some-clause-written : goal.returns-in-Some-clause-written
@@ -24,7 +24,7 @@ returns-in-None-clause-handed g c =
     inl (sym (answer-part c.in_ok-answer.ensures.answered) ∙ ap answer_bytes c.in-None.is)
 
 pub returns-in-Some-clause-handed : goal.returns-in-Some-clause-handed
-returns-in-Some-clause-handed g c = on-success c.write.result (λ finished. inr finished) c.write.ensures.finished
+returns-in-Some-clause-handed g c = on_ok_weaker c.write.result (λ finished. inr finished) c.write.ensures.finished
 
 pub returns-in-Some-clause-kept : goal.returns-in-Some-clause-kept
-returns-in-Some-clause-kept g c = on-success c.write.result (λ finished was. finished) c.write.ensures.finished
+returns-in-Some-clause-kept g c = on_ok_weaker c.write.result (λ finished was. finished) c.write.ensures.finished
