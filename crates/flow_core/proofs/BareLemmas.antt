@@ -1,6 +1,6 @@
 -- What is kept after a taking or an acknowledgement is the summary after it.
 use Rattle.std.specs.Prelude.{◌≡◌, ◌↔◌, IsTrue, ℕ, ◌+◌, ◌<◌, ◌≤◌, min, Bool, true, false, not, nat_lt, is_some, Option, Some, None, option_map, unwrap_or, List, [], ◌∷◌, ◌++◌, length, take, drop, refl}
-use Rattle.std.proofs.Common.{ap, sym, ◌∙◌, subst, arith, length-append, append-nil}
+use Rattle.std.proofs.Common.{add-zero, ap, sym, ◌∙◌, subst, arith, length-append, append-nil}
 use Rattle.std.proofs.lemmas.Bool.{true≢false}
 use Rattle.std.proofs.Math.Seq.{take-append_seam}
 use Rattle.std.proofs.lemmas.List.{take-append-drop}
@@ -119,9 +119,6 @@ range-told case (report ∷ rest) untold s waits tells none some range = record 
 range-take : (case : Case) (s : Summary) → s.out ≡ None → can_tell s ≡ true → InRange case s → InRange case (step_take s)
 range-take case s none some range = range-told case s.waiting s.untold s refl refl none some range
 
-plus-none : (n : ℕ) → n + 0 ≡ n
-plus-none n = omega arith
-
 -- a report waits or a notice is untold if and only if not both are missing
 pub can-tell : (pool : PoolState) (slots : List ℕ) (untold : Option Notice) (empty : Bool)
     → (IsTrue empty ↔ ((slots ≡ []) × (untold ≡ None))) → not empty ≡ is_some (next_telling (reports_in pool slots) untold)
@@ -186,11 +183,11 @@ acked-by acked.Stopped report = refl
 -- its parts: the machine runs, what comes of it is noted, and it is counted
 put-parts : {X : Type 0} → (flow : Flow X) (ack : Ack) (outcome : Outcome (FaultKind × X)) (env : Env) (s : Summary)
     → step_outcome flow ack (outcome, env) s ≡ step_count ack (step_note flow ack outcome (step_machine (outcome, env) s))
-put-parts flow ack quiet env s = λ i. record (step_outcome flow ack (quiet, env) s) { waiting = append-nil s.waiting i; faults = plus-none s.faults i; held = plus-none s.held i }
-put-parts flow ack stopped env s = λ i. record (step_outcome flow ack (stopped, env) s) { waiting = append-nil s.waiting i; faults = plus-none s.faults i; held = plus-none s.held i }
-put-parts flow ack held env s = λ i. record (step_outcome flow ack (held, env) s) { waiting = append-nil s.waiting i; faults = plus-none s.faults i }
-put-parts flow ack (reported fields) env s = λ i. record (step_outcome flow ack (reported fields, env) s) { faults = plus-none s.faults i; held = plus-none s.held i }
-put-parts flow ack (failed fault) env s = λ i. record (step_outcome flow ack (failed fault, env) s) { waiting = append-nil s.waiting i; held = plus-none s.held i }
+put-parts flow ack quiet env s = λ i. record (step_outcome flow ack (quiet, env) s) { waiting = append-nil s.waiting i; faults = add-zero s.faults i; held = add-zero s.held i }
+put-parts flow ack stopped env s = λ i. record (step_outcome flow ack (stopped, env) s) { waiting = append-nil s.waiting i; faults = add-zero s.faults i; held = add-zero s.held i }
+put-parts flow ack held env s = λ i. record (step_outcome flow ack (held, env) s) { waiting = append-nil s.waiting i; faults = add-zero s.faults i }
+put-parts flow ack (reported fields) env s = λ i. record (step_outcome flow ack (reported fields, env) s) { faults = add-zero s.faults i; held = add-zero s.held i }
+put-parts flow ack (failed fault) env s = λ i. record (step_outcome flow ack (failed fault, env) s) { waiting = append-nil s.waiting i; held = add-zero s.held i }
 
 -- one acknowledgement more, and at most one report or notice, one fault and one held report
 range-more : (case : Case) (s next : Summary)
