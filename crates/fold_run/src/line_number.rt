@@ -13,7 +13,7 @@ const SHORT: u64 = 2_147_483_647;
 /// How many digits are read without a test of the number's size.
 const FEW_DIGITS: u32 = 9;
 
-/// How long a text must be to have so many digits and a byte after them, so that the end of the text isn't tested for.
+/// A text of so many bytes has room for these digits and a byte after them: no digit needs a test for the text's end.
 const LONG: usize = 10;
 
 /// The number at the front of a text, up to a blank or the text's end, and what follows that blank; None exactly if

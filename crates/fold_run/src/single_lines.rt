@@ -15,8 +15,8 @@ use crate::line_values::VALUES;
 use crate::names::after_known;
 use ccp_base::{Ack, Acks, ack_of, is_flag};
 
-/// How long a text must be for its first line to be read in one pass: a name, an equals sign and a number of few digits
-/// are shorter. So there is one test of the text's length, and not one for each byte.
+/// A name, an equals sign and a number of few digits are shorter than this. So a text of so many bytes needs one test of
+/// its length, and not one for each byte of its first line.
 const LONG: usize = 32;
 
 /// The lines that are left of a text.

@@ -21,6 +21,6 @@ pub use link::Link;
 pub use link_case::LinkCase;
 pub use past::Past;
 pub use queue::Queue;
-pub use rules::{allowance, arrival_ack, is_at, is_marked, next_loss, timeout_ack};
+pub use rules::{allowance, arrival_ack, byte_rate, is_at, is_marked, next_loss, timeout_ack};
 pub use trace::{Trace, TraceFault};
 pub use traffic::put_in_flight;

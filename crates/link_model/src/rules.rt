@@ -158,7 +158,7 @@ pub fn allowance(mss: u32, window: u64) -> u64
 
 /// The rate in bytes a second of `packets` packets of `mss` bytes from time 0 to `now`, in microseconds; 0 at time 0.
 #[inline]
-fn rate(mss: u32, packets: u64, now: u64) -> u64
+pub fn byte_rate(mss: u32, packets: u64, now: u64) -> u64
     requires mss { mss ≤ most_segment_bytes }
     requires packets { packets ≤ most_packets }
     ensures { result ≡ byte_rate mss packets now }
@@ -169,14 +169,18 @@ fn rate(mss: u32, packets: u64, now: u64) -> u64
     u64::from(mss) * packets * 1_000_000 / now
 }
 
-/// As `rate` if `rates` is true, and 0 otherwise, without a division.
+/// As `byte_rate` if `rates` is true, and 0 otherwise, without a division.
 #[inline]
 fn rate_if(rates: bool, mss: u32, packets: u64, now: u64) -> u64
     requires mss { mss ≤ most_segment_bytes }
     requires packets { packets ≤ most_packets }
     ensures { result ≡ number_if rates (byte_rate mss packets now) }
 {
-    if rates { rate(mss, packets, now) } else { 0 }
+    if rates {
+        byte_rate(mss, packets, now)
+    } else {
+        0
+    }
 }
 
 /// Whether a packet is marked if `queued` packets wait when it is sent: at least `mark` of them mean a mark.

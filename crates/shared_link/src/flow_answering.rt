@@ -7,8 +7,8 @@ ghost use Rattle.shared_link.specs.Kept.{flow_under_way, answered_in, IsFlowKept
 
 use crate::flow_sending::PACKETS;
 use crate::flow_traffic::FlowTraffic;
-use crate::packed_ack::{PackedAck, PackedAcks};
 use crate::shared_case::FlowLink;
+use crate::unrated_ack::{UnratedAck, UnratedAcks};
 use ccp_base::NoMemory;
 use circular_buffer::HeapCircularBuffer;
 use link_model::Arrival;
@@ -48,7 +48,7 @@ impl FlowTraffic {
     }
 
     /// Keeps the memory of a list that the flow was given.
-    pub(crate) fn keep_list(&mut self, link: &FlowLink, list: PackedAcks)
+    pub(crate) fn keep_list(&mut self, link: &FlowLink, list: UnratedAcks)
         requires kept { IsFlowKept link.now self.old }
         ensures kept { IsFlowKept link.now self.new }
         ensures standing { flow_under_way self.new ≡ flow_under_way self.old }
@@ -63,7 +63,7 @@ impl FlowTraffic {
     }
 
     /// Takes the acknowledgements of the round out.
-    pub(crate) fn take_acks(&mut self, alloc: Global, link: &FlowLink) -> PackedAcks
+    pub(crate) fn take_acks(&mut self, alloc: Global, link: &FlowLink) -> UnratedAcks
         requires kept { IsFlowKept link.now self.old }
         ensures kept { IsFlowKept link.now self.new }
         ensures standing { flow_under_way self.new ≡ flow_under_way self.old }
@@ -74,7 +74,7 @@ impl FlowTraffic {
     {
         // for the contract alone: what holds of a flow depends on its listed losses
         let _ = link;
-        PackedAcks::from_vec(std::mem::replace(&mut self.acks, Vec::new(alloc)))
+        UnratedAcks::from_vec(std::mem::replace(&mut self.acks, Vec::new(alloc)))
     }
 
     /// Acknowledges the packets that arrive before `end`, in microseconds, at most `left`. If the flow has an
@@ -145,7 +145,14 @@ impl FlowTraffic {
         self.acked += 1;
         self.time = arrival.at;
         let past = self.past;
-        let ack = PackedAck::of_arrival(link, arrival, past, self.in_flight, self.acked, self.sent);
+        let ack = UnratedAck::of_arrival(
+            link,
+            arrival,
+            past,
+            self.in_flight,
+            self.acked,
+            self.sent,
+        );
         self.past = ack.past_after();
         self.acks.push_reserved(ack);
     }
@@ -175,7 +182,7 @@ impl FlowTraffic {
         self.lost = 0;
         self.since = 0;
         self.in_flight = 0;
-        let ack = PackedAck::of_timeout(link, now, self.past, lost, self.acked, self.sent);
+        let ack = UnratedAck::of_timeout(link, now, self.past, lost, self.acked, self.sent);
         self.past = ack.past_after();
         self.acks.push_reserved(ack);
     }

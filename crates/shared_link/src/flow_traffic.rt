@@ -1,7 +1,7 @@
 //! What is under way of one flow on a shared link, and its counts of packets.
 ghost use Rattle.std.specs.Prelude.{◌≡◌, ◌+◌, ◌-◌, ◌≤◌};
 
-use crate::packed_ack::PackedAck;
+use crate::unrated_ack::UnratedAck;
 use circular_buffer::HeapCircularBuffer;
 use link_model::{Arrival, Past};
 
@@ -31,7 +31,7 @@ pub(crate) struct FlowTraffic {
     /// How many listed losses are known to have numbers below the next packet's.
     pub(crate) passed: usize,
     /// Its acknowledgements in the present round.
-    pub(crate) acks: Vec<PackedAck>,
+    pub(crate) acks: Vec<UnratedAck>,
 }
 
 impl FlowTraffic {

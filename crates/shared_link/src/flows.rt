@@ -10,11 +10,11 @@ ghost use Rattle.shared_link.specs.KeptFlows.{IsReadyAt, HasRoomAt, HaveRoom, Ar
 
 use crate::flow_sending::PACKETS;
 use crate::flow_traffic::FlowTraffic;
-use crate::packed_ack::PackedAcks;
 use crate::reserving::clear_for;
 use crate::round::{Ask, Counts};
 use crate::sending::Sending;
 use crate::shared_case::{FlowLink, SharedCase};
+use crate::unrated_ack::UnratedAcks;
 use ccp_base::NoMemory;
 use link_model::allowance;
 use std::alloc::{AllocError, Global};
@@ -285,7 +285,7 @@ impl Flows {
         case: &SharedCase,
         rounds: u32,
         flow: usize,
-        list: PackedAcks,
+        list: UnratedAcks,
     )
         requires ready { AreReady case.now rounds self.old.traffic.items }
         requires flow { flow < length self.old.traffic.items }
@@ -305,7 +305,7 @@ impl Flows {
         rounds: u32,
         end: u64,
         flow: usize,
-    ) -> PackedAcks
+    ) -> UnratedAcks
         requires case { IsWithin case.now }
         requires asks { length asks.now ≡ length case.now.flows }
         requires count { length self.old.traffic.items ≡ length case.now.flows }
@@ -336,7 +336,7 @@ impl Flows {
         asks: &[Ask],
         rounds: u32,
         end: u64,
-        answers: &mut Vec<PackedAcks>,
+        answers: &mut Vec<UnratedAcks>,
     )
         requires valid { IsTrace case.now.trace }
         requires case { IsWithin case.now }

@@ -6,14 +6,14 @@ mod flow_sending;
 mod flow_traffic;
 mod flows;
 mod laws;
-mod packed_ack;
 mod reserving;
 mod round;
 mod sending;
 mod shared_case;
 mod shared_link;
+mod unrated_ack;
 
-pub use packed_ack::{PackedAck, PackedAcks};
 pub use round::{Ask, Counts};
 pub use shared_case::{FlowLink, FlowLinks, SharedCase};
 pub use shared_link::{AckLists, SharedLink};
+pub use unrated_ack::{UnratedAck, UnratedAcks};

@@ -7,18 +7,18 @@ ghost use Rattle.shared_link.specs.SharedRounds.{acks_after, counts_of};
 ghost use Rattle.shared_link.specs.SharedStanding.{Stands};
 
 use crate::flows::Flows;
-use crate::packed_ack::PackedAcks;
 use crate::reserving::clear_for;
 use crate::round::{Ask, Counts};
 use crate::sending::Sending;
 use crate::shared_case::SharedCase;
+use crate::unrated_ack::UnratedAcks;
 use ccp_base::{NoMemory, Sequence};
 use link_model::Chance;
 use std::alloc::Global;
 use std::marker::Model;
 
 /// Acknowledgements of flows, in the order of the flows.
-pub type AckLists = Sequence<PackedAcks>;
+pub type AckLists = Sequence<UnratedAcks>;
 
 /// A link that several flows share. It keeps no list of the rounds that it was given; contracts say for which lists it
 /// stands.
@@ -93,7 +93,7 @@ impl SharedLink {
         &mut self,
         alloc: Global,
         asks: &[Ask],
-        answers: &mut Vec<PackedAcks>,
+        answers: &mut Vec<UnratedAcks>,
     ) -> Result<(), NoMemory>
         requires asks { length asks.now ≡ length self.old.case.flows }
         requires rounds { self.old.rounds < most_rounds }
@@ -121,7 +121,7 @@ impl SharedLink {
     }
 
     /// Takes back a list that `round` gave a flow, whose memory serves the flow's next list. The link is as before.
-    pub fn give_back(&mut self, flow: u32, list: PackedAcks)
+    pub fn give_back(&mut self, flow: u32, list: UnratedAcks)
         ensures unchanged { self.new ≡ self.old }
     {
         let flow = flow as usize;

@@ -12,9 +12,9 @@ ghost use Rattle.shared_run.specs.SharedBooks.{IsGivenOf};
 ghost use Rattle.shared_run.specs.RoundFlows.{HasHistory, MayHear, Took, MakesNext};
 
 use campaign_core::{GivenFlow, TalliedFlow, is_due};
-use ccp_base::{Ack, NoMemory};
+use ccp_base::NoMemory;
 use flow_core::{Core, Given};
-use shared_link::{Ask, PackedAck};
+use shared_link::{Ask, UnratedAck};
 use std::alloc::Global;
 
 /// What a flow asks the link for: its present congestion window, and the acknowledgements of its case that are left.
@@ -34,18 +34,16 @@ pub(crate) fn ask_of<F: GivenFlow>(flow: &TalliedFlow<F>) -> Ask
 pub(crate) fn run_part<F: GivenFlow>(
     flow: &mut TalliedFlow<F>,
     alloc: Global,
-    acks: &[PackedAck],
+    acks: &[UnratedAck],
 ) -> Result<(), NoMemory>
     requires { MayHear F.at acks.now flow.old.flow flow.old.tally }
     ensures part { OnOk result (Goes F.at (round_part over_codes acks.now)
         flow.old.flow flow.old.tally flow.new.flow flow.new.tally) }
     ensures nothing { length acks.now ≡ 0 → IsOk result }
 {
-    // one place for all of them: none is copied
-    let mut place = Ack::default();
     let mut left = acks;
     while let Some((ack, rest)) = left.split_first() {
-        hear(flow, ack, &mut place);
+        hear(flow, ack);
         settle_all(flow, alloc, false)?;
         left = rest;
     }
@@ -101,14 +99,28 @@ fn answers_next<F: GivenFlow>(flow: &TalliedFlow<F>, at_end: bool) -> bool
     if at_end { bare.has_out() } else { is_due(bare) }
 }
 
-/// Takes an acknowledgement, which is unpacked to `ack`. Its rates are computed only if the flow gets them.
-fn hear<F: GivenFlow>(flow: &mut TalliedFlow<F>, packed: &PackedAck, ack: &mut Ack)
-    requires { MayHear F.at (packed.now ∷ []) flow.old.flow flow.old.tally }
-    ensures { Goes F.at (λ core. with_ack core packed.entry.now)
+/// Takes an acknowledgement, with its rates only if the flow gets them.
+fn hear<F: GivenFlow>(flow: &mut TalliedFlow<F>, unrated: &UnratedAck)
+    requires { MayHear F.at (unrated.now ∷ []) flow.old.flow flow.old.tally }
+    ensures { Goes F.at (λ core. with_ack core unrated.entry.now)
         flow.old.flow flow.old.tally flow.new.flow flow.new.tally }
 {
-    packed.unpack(flow.flow.gets_rates(), ack);
-    flow.hear(ack);
+    if flow.flow.gets_rates() {
+        hear_rated(flow, unrated);
+        return;
+    }
+    flow.hear(unrated.without_rates());
+}
+
+/// Takes an acknowledgement with its rates. Few flows get them: this has no place in the loop over acknowledgements.
+#[inline(never)]
+fn hear_rated<F: GivenFlow>(flow: &mut TalliedFlow<F>, unrated: &UnratedAck)
+    requires may { MayHear F.at (unrated.now ∷ []) flow.old.flow flow.old.tally }
+    requires gets { F.gets flow.old.flow ≡ true }
+    ensures { Goes F.at (λ core. with_ack core unrated.entry.now)
+        flow.old.flow flow.old.tally flow.new.flow flow.new.tally }
+{
+    flow.hear(&unrated.ack());
 }
 
 /// Takes a ticket if that is legal, and says whether it did.

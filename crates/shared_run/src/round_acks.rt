@@ -7,14 +7,14 @@ ghost use Rattle.shared_run.specs.Courses.{flows_after, acks_in_round};
 
 use crate::course::Course;
 use crate::known_flow::KnownFlow;
-use shared_link::PackedAcks;
+use shared_link::UnratedAcks;
 use std::marker::PhantomData;
 
 /// The acknowledgements of a flow in the round that comes after `round` rounds. The flow stands as it did after `since`
 /// rounds.
 #[derive(Drop)]
 pub(crate) struct RoundAcks<C: Course> {
-    pub(crate) acks: PackedAcks,
+    pub(crate) acks: UnratedAcks,
     /// The flow's number.
     pub(crate) number: u32,
     /// After how many rounds its lock has it.
@@ -31,7 +31,7 @@ pub(crate) struct RoundAcks<C: Course> {
 
 impl<C: Course> RoundAcks<C> {
     /// A flow's acknowledgements in a round of the run.
-    pub(crate) fn new(acks: PackedAcks, number: u32, round: u32) -> Self
+    pub(crate) fn new(acks: UnratedAcks, number: u32, round: u32) -> Self
         requires are { slice_get (acks_in_round C.link C.cases round) number ≡ Some acks }
         requires few { round < most_rounds }
         requires roomy { (core : CoreState) → slice_get (flows_after C.link C.cases (round + 1)) number ≡ Some core
@@ -62,7 +62,7 @@ impl<C: Course> RoundAcks<C> {
     }
 
     /// The list of the acknowledgements.
-    pub(crate) fn into_acks(self) -> PackedAcks {
+    pub(crate) fn into_acks(self) -> UnratedAcks {
         self.acks
     }
 }

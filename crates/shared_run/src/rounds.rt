@@ -18,7 +18,7 @@ use crate::run_flow::LockedRunFlow;
 use crate::worker_handle::{WorkerHandle, do_orders, start_workers};
 use campaign_core::GivenFlow;
 use ccp_base::{Gate, NoMemory};
-use shared_link::{PackedAcks, SharedLink};
+use shared_link::{SharedLink, UnratedAcks};
 use std::alloc::Global;
 use std::sync::Wait;
 use std::thread;
@@ -38,7 +38,7 @@ pub(crate) struct RunEnd<C: Course> {
 fn deal<C: Course>(
     desk: &mut Desk<C>,
     orders: &mut [Order<C>],
-    lists: &mut Vec<PackedAcks>,
+    lists: &mut Vec<UnratedAcks>,
     round: u32,
     workers: u32,
 ) -> Result<(), NoMemory>
@@ -109,7 +109,7 @@ fn run_round<'e, C: Course, F: GivenFlow, R: Wait, G: Gate>(
     alloc: Global,
     flows: &[LockedRunFlow<C, F>],
     desk: &mut Desk<C>,
-    lists: &mut Vec<PackedAcks>,
+    lists: &mut Vec<UnratedAcks>,
     orders: &mut [Order<C>],
     handles: &mut [WorkerHandle<'e, C>],
     done: u32,
