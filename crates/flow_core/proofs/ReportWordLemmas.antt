@@ -1,9 +1,10 @@
 -- What a slot holds once a report was written over its words.
-use Rattle.std.proofs.Common.{◌≡◌, ℕ, suc, None, unwrap_or, ◌+◌, ◌<◌, ◌≤◌, slice_index, drop-cons, List, [], ◌∷◌, ◌++◌, length, take, drop, replicate, slice_set, Option, Some, option_map, refl, ap, sym, ◌∙◌, append_assoc, arith, length-append, length-drop}
+use Rattle.std.proofs.Common.{◌≡◌, ℕ, None, ◌+◌, ◌≤◌, List, [], ◌∷◌, ◌++◌, length, take, drop, replicate, slice_set, Option, Some, option_map, refl, ap, sym, ◌∙◌, append_assoc, arith, length-append, length-drop}
 use Rattle.std.proofs.Math.Seq.{set-append_seam, take-append_seam}
 use Rattle.std.proofs.lemmas.List.{append-nil, length-replicate}
 use Rattle.std.proofs.lemmas.Option.{none-some}
 use Rattle.ccp_base.specs.declared.exchange.Report.{Report}
+use Rattle.slot_pool.specs.Pool.{with_run}
 use Rattle.flow_core.specs.Outbox.{head_word_count, most_report_words, head_words, report_words, ReportFits}
 use Rattle.flow_core.specs.ReportWords.{written_over}
 
@@ -52,12 +53,23 @@ pub written_report : (size : ℕ) (report : Report) (head fields : List ℕ) (fr
 written_report size report head fields fresh headed written large =
     written_report_over (replicate size 0) report head fields fresh headed written (omega (arith, large, length-replicate {A = ℕ} size 0))
 
--- a slot as it was taken over which they are written
+-- a slot as it was taken, into which they are written as a run each
 pub written_report_as_is : (size : ℕ) (report : Report) (head fields : List ℕ) (fresh headed written : Option (List ℕ))
-    → most_report_words ≤ size → ReportFits report → head ≡ head_words report → fields ≡ report.fields
-    → option_map (λ (words : List ℕ). length words) fresh ≡ Some size → headed ≡ written_over fresh 0 head → written ≡ written_over headed head_word_count fields
+    → head ≡ head_words report → fields ≡ report.fields
+    → option_map (λ (words : List ℕ). length words) fresh ≡ Some size
+    → headed ≡ option_map (λ words. with_run words 0 head) fresh → written ≡ option_map (λ words. with_run words head_word_count fields) headed
     → option_map (take (length (report_words report))) written ≡ Some (report_words report)
-written_report_as_is size report head fields None headed written large range head_is fields_is holds = absurd (none-some size holds)
-written_report_as_is size report head fields (Some old) headed written large range head_is fields_is holds =
-    let long : length old ≡ size = ap (λ (o : Option ℕ). unwrap_or o 0) holds in
-    written_report_over old report head fields (Some old) headed written (omega (arith, large, long)) range head_is fields_is refl
+written_report_as_is size report head fields None headed written head_is fields_is holds first second = absurd (none-some size holds)
+written_report_as_is size report head fields (Some old) headed written head_is fields_is holds first second =
+    let front : List ℕ = head_words report in
+    let rest : List ℕ = drop head_word_count old in
+    let back : List ℕ = drop (head_word_count + length report.fields) (front ++ rest) in
+    let with_head : headed ≡ Some (front ++ rest) = first ∙ ap (λ (words : List ℕ). Some (with_run old 0 words)) head_is in
+    let with_fields : written ≡ Some (front ++ (report.fields ++ back)) =
+    second
+    ∙ ap (option_map (λ words. with_run words head_word_count fields)) with_head
+    ∙ ap (λ (words : List ℕ). Some (with_run (front ++ rest) head_word_count words)) fields_is
+    ∙ ap (λ (words : List ℕ). Some (words ++ (report.fields ++ back))) (take-append_seam front rest) in
+    ap (option_map (take (length (report_words report)))) with_fields
+    ∙ ap (λ (words : List ℕ). Some (take (length (report_words report)) words)) (sym (append_assoc front report.fields back))
+    ∙ ap Some (take-append_seam (report_words report) back)

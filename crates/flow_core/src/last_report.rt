@@ -1,13 +1,13 @@
-//! The last report of a machine, written into one of the machine's further slots. Its fields are copied from word to word.
+//! The last report of a machine, written into one of the machine's further slots. Its fields are copied from slot to slot.
 ghost use Rattle.std.specs.Prelude.{◌≡◌, ◌+◌, ◌<◌, ◌≤◌, None, Some, option_map, length};
-ghost use Rattle.slot_pool.specs.Pool.{words_at, IsOut, free_of, ChangesSlot, WritesWord};
-ghost use Rattle.flow_core.specs.Outbox.{head_word_count, most_report_words, head_words, ReportFits, Stores};
-ghost use Rattle.flow_core.specs.ReportWords.{WritesOver, with_fields};
+ghost use Rattle.slot_pool.specs.Pool.{words_at, free_of, ChangesSlot};
+ghost use Rattle.flow_core.specs.Outbox.{most_report_words, head_words, ReportFits, Stores};
+ghost use Rattle.flow_core.specs.ReportWords.{with_fields};
 
-use crate::report_words::{HEAD_WORDS, head, write};
+use crate::report_words::{HEAD_WORDS, head};
 use ccp_base::Report;
 use fold_machine::Machine;
-use slot_pool::{Full, Slot, Slots};
+use slot_pool::{Full, Slot};
 
 /// Takes a free slot and writes a report into it, whose fields are those of the machine's last report. `report` has the
 /// other numbers.
@@ -23,8 +23,8 @@ pub(crate) fn store_last(machine: &mut Machine, report: &Report) -> Slot
 {
     let head = last_head(machine, report);
     let slot = take_free_slot(machine);
-    write_head(machine, &slot, &head);
-    write_fields(machine, &slot);
+    machine.set_slot_run(&slot, 0, &head);
+    machine.copy_report(&slot, HEAD_WORDS as u32);
     slot
 }
 
@@ -53,45 +53,4 @@ fn take_free_slot(machine: &mut Machine) -> Slot
         Ok(slot) => slot,
         Err(Full) => unreachable!(),
     }
-}
-
-/// Writes the words that stand before the fields.
-#[inline(always)]
-fn write_head(machine: &mut Machine, slot: &Slot, head: &[u64; HEAD_WORDS])
-    requires out { IsOut machine.old.further slot.now }
-    requires words { most_report_words ≤ machine.old.further.words }
-    ensures written { WritesOver slot.now 0 head.now machine.old.further machine.new.further }
-    ensures out { IsOut machine.new.further slot.now }
-    ensures free { free_of machine.new.further ≡ free_of machine.old.further }
-    ensures machine { machine.new ≡ record machine.old { further = machine.new.further } }
-{
-    write(machine, slot, 0, head);
-}
-
-/// Writes the fields of the machine's last report behind the words before them. The slot must be out.
-fn write_fields(machine: &mut Machine, slot: &Slot)
-    requires out { IsOut machine.old.further slot.now }
-    requires words { most_report_words ≤ machine.old.further.words }
-    ensures written { WritesOver slot.now head_word_count machine.old.report machine.old.further machine.new.further }
-    ensures out { IsOut machine.new.further slot.now }
-    ensures free { free_of machine.new.further ≡ free_of machine.old.further }
-    ensures machine { machine.new ≡ record machine.old { further = machine.new.further } }
-{
-    let count = machine.reported_words().len();
-    for i in 0..count {
-        let word = machine.reported_words()[i];
-        set_word(machine, slot, (HEAD_WORDS + i) as u32, word);
-    }
-}
-
-/// Writes one word of a slot that is out.
-fn set_word(machine: &mut Machine, slot: &Slot, at: u32, word: u64)
-    requires out { IsOut machine.old.further slot.now }
-    requires within { at < machine.old.further.words }
-    ensures written { WritesWord machine.old.further machine.new.further slot.now at word }
-    ensures out { IsOut machine.new.further slot.now }
-    ensures free { free_of machine.new.further ≡ free_of machine.old.further }
-    ensures machine { machine.new ≡ record machine.old { further = machine.new.further } }
-{
-    machine.set_slot(slot, at, word);
 }

@@ -60,8 +60,7 @@ pub(crate) fn head(report: &Report) -> [u64; HEAD_WORDS]
 }
 
 /// Writes words into a slot, from a place on. The slot must be out.
-#[inline(always)]
-pub(crate) fn write<P: Slots>(slots: &mut P, slot: &Slot, at: u32, words: &[u64])
+fn write<P: Slots>(slots: &mut P, slot: &Slot, at: u32, words: &[u64])
     requires out { IsOut (P.pool slots.old) slot.now }
     requires within { at + length words.now ≤ most_report_words }
     requires words { most_report_words ≤ (P.pool slots.old).words }
