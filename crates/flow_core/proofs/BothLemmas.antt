@@ -1,5 +1,5 @@
 -- What two tests that both hold say of an option.
-use Rattle.std.specs.Prelude.{◌≡◌, Bool, true, false, ◌&&◌, is_none, Option, Some, None, refl}
+use Rattle.std.specs.Prelude.{◌≡◌, Bool, true, ◌&&◌, is_none, Option, Some, None, refl}
 use Rattle.std.proofs.Common.{sym}
 use Rattle.std.proofs.lemmas.Bool.{true≢false}
 

@@ -1,5 +1,4 @@
-use Rattle.std.proofs.Common.{List, ℕ, length, slice_set, ap, sym, ◌∙◌, subst, ◌≤◌}
-use Rattle.ccp_base.specs.Limits.{most_fields}
+use Rattle.std.proofs.Common.{List, ℕ, length, slice_set, ap, ◌∙◌}
 use Rattle.flow_core.specs.Outbox.{head_words}
 use Rattle.flow_core.proofs.last_report.last_head.Goals as goal
 

@@ -1,4 +1,4 @@
-use Rattle.std.proofs.Common.{List, ℕ, ◌∷◌, [], ◌++◌, ap, sym, subst}
+use Rattle.std.proofs.Common.{◌∷◌, [], ◌++◌, sym, subst}
 use Rattle.slot_pool.specs.Pool.{words_at}
 use Rattle.flow_core.specs.Outbox.{OutboxState, Lies}
 use Rattle.flow_core.specs.ReportWords.{with_fields}

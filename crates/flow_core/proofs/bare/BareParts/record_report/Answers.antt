@@ -1,5 +1,4 @@
 use Rattle.std.proofs.Common.{ap, ◌∙◌, ◌+◌}
-use Rattle.ccp_base.specs.declared.exchange.Report.{Report}
 use Rattle.ccp_base.specs.RunningEpochs.{report_at, reported_epoch}
 use Rattle.flow_core.specs.Bares.{reports_in}
 use Rattle.flow_core.specs.ReportWords.{with_fields}
