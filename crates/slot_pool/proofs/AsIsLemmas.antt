@@ -1,5 +1,5 @@
 -- What a pool is after a slot was taken with the words that are in it.
-use Rattle.std.proofs.Common.{◌≡◌, ℕ, suc, ◌+◌, ◌-◌, ◌<◌, ◌*◌, List, length, Option, Some, None, option_map, slice_index, refl, sym, ap, ◌∙◌, subst, arith}
+use Rattle.std.proofs.Common.{◌≡◌, ℕ, suc, ◌+◌, ◌-◌, ◌*◌, List, length, Some, None, option_map, slice_index, refl, sym, ap, ◌∙◌, subst, arith}
 use Rattle.slot_pool.specs.declared.region.Region.{Region}
 use Rattle.slot_pool.specs.Pool.{PoolState, words_at, free_of, ChangesSlot}
 use Rattle.slot_pool.specs.Region.{words_of}
