@@ -28,7 +28,7 @@ impl LinkCase {
 
     /// Whether a packet is marked if `queued` packets wait when it is sent.
     #[inline]
-    pub(crate) fn marks(&self, queued: u64) -> bool
+    pub(crate) fn marks(&self, queued: u128) -> bool
         ensures { result ≡ is_marked self.now.mark queued }
     {
         is_marked(self.mark, queued)
@@ -185,11 +185,11 @@ fn rate_if(rates: bool, mss: u32, packets: u64, now: u64) -> u64
 
 /// Whether a packet is marked if `queued` packets wait when it is sent: at least `mark` of them mean a mark.
 #[inline]
-pub fn is_marked(mark: Option<u32>, queued: u64) -> bool
+pub fn is_marked(mark: Option<u32>, queued: u128) -> bool
     ensures { result ≡ is_marked mark queued }
 {
     match mark {
-        Some(mark) => queued >= u64::from(mark),
+        Some(mark) => queued >= u128::from(mark),
         None => false,
     }
 }

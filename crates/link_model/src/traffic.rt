@@ -163,7 +163,7 @@ impl Traffic {
         if waiting >= u64::from(case.queue) {
             return None;
         }
-        Some(case.marks(waiting))
+        Some(case.marks(u128::from(waiting)))
     }
 
     /// Sends `more` packets, all of which are lost.

@@ -140,7 +140,7 @@ impl FlowTraffic {
             lost: self.lost,
             sent_at: sending.now,
             at: own + link.delay_us,
-            marked: is_marked(link.mark, sending.queue.waiting),
+            marked: is_marked(link.mark, u128::from(sending.queue.waiting)),
         };
         put(&mut self.flight, arrival);
         self.lost = 0;

@@ -21,7 +21,7 @@ pub struct UnratedAck {
     /// When its flow starts, in microseconds.
     start_us: u64,
     /// How many packets of the flow were acknowledged so far.
-    acked: u32,
+    acked: u64,
     /// How many were sent so far.
     sent: u32,
     /// The size of each, in bytes.
@@ -67,7 +67,7 @@ impl UnratedAck {
         UnratedAck {
             unrated: arrival_ack(link.mss, arrival, past, stay, acked, sent, false),
             start_us: link.start_us,
-            acked: acked as u32,
+            acked,
             sent: sent as u32,
             mss: link.mss,
         }
@@ -93,7 +93,7 @@ impl UnratedAck {
         UnratedAck {
             unrated: timeout_ack(link.mss, now, past, lost, acked, sent, false),
             start_us: link.start_us,
-            acked: acked as u32,
+            acked,
             sent: sent as u32,
             mss: link.mss,
         }
@@ -123,7 +123,7 @@ impl UnratedAck {
         let unrated = self.unrated;
         let since = unrated.now.saturating_sub(self.start_us);
         Ack {
-            rate_incoming: byte_rate(self.mss, u64::from(self.acked), since),
+            rate_incoming: byte_rate(self.mss, self.acked, since),
             rate_outgoing: byte_rate(self.mss, u64::from(self.sent), since),
             ..unrated
         }
