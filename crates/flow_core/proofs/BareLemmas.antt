@@ -80,7 +80,7 @@ length-in pool (slot ∷ slots) = omega (arith, length-in pool slots)
 -- ---- a taking
 
 -- the next report or notice, with what is left
-told-next : (pool : PoolState) (slots : List ℕ) (untold : Option Notice) (told : Told)
+pub told-next : (pool : PoolState) (slots : List ℕ) (untold : Option Notice) (told : Told)
     → Some told ≡ next_told (reports_in pool slots) untold
     → next_telling (reports_in pool slots) untold ≡ Some (told, (drop 1 (reports_in pool slots), notice_left slots untold))
 told-next pool (slot ∷ slots) untold told is =
@@ -181,7 +181,7 @@ acked-by (acked.Faulted kind index) report = refl
 acked-by acked.Stopped report = refl
 
 -- its parts: the machine runs, what comes of it is noted, and it is counted
-put-parts : {X : Type 0} → (flow : Flow X) (ack : Ack) (outcome : Outcome (FaultKind × X)) (env : Env) (s : Summary)
+pub put-parts : {X : Type 0} → (flow : Flow X) (ack : Ack) (outcome : Outcome (FaultKind × X)) (env : Env) (s : Summary)
     → step_outcome flow ack (outcome, env) s ≡ step_count ack (step_note flow ack outcome (step_machine (outcome, env) s))
 put-parts flow ack quiet env s = λ i. record (step_outcome flow ack (quiet, env) s) { waiting = append-nil s.waiting i; faults = add-zero s.faults i; held = add-zero s.held i }
 put-parts flow ack stopped env s = λ i. record (step_outcome flow ack (stopped, env) s) { waiting = append-nil s.waiting i; faults = add-zero s.faults i; held = add-zero s.held i }
