@@ -5,6 +5,7 @@ pub mod BothLemmas
 pub mod MappedLemmas
 pub mod SimulatedEpochs
 pub mod PlacedParts
+pub mod ReadingLifts
 pub mod LiftLemmas
 pub mod WordLemmas
 pub mod LinkWordLemmas
