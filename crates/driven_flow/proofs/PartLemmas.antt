@@ -26,9 +26,9 @@ use Rattle.flow_core.specs.declared.bare.Issued.{Issued}
 use Rattle.flow_core.specs.Bares.{reports_in, step_machine, step_count}
 use Rattle.flow_core.specs.LiveText.{reports_told}
 use Rattle.flow_core.specs.MachineCalls.{heard_on}
-use Rattle.flow_core.specs.Outbox.{OutboxState, Lies, next_told, notice_left, empty_outbox}
+use Rattle.flow_lists.specs.Outbox.{OutboxState, Lies, next_told, notice_left, empty_outbox}
 use Rattle.flow_core.specs.Readings.{Flow, env_of, by_code}
-use Rattle.flow_core.specs.ReportWords.{report_in}
+use Rattle.flow_lists.specs.ReportWords.{report_in}
 use Rattle.flow_core.specs.States.{some_count}
 use Rattle.flow_core.specs.Summaries.{Summary, summary, step_outcome, outcome_at, step_ack, next_telling, with_told, step_take, can_tell}
 use Rattle.flow_core.proofs.BareAnswerLemmas.{told-most}

@@ -30,7 +30,7 @@ use Rattle.flow_core.specs.Cores.{acked_as}
 use Rattle.flow_core.specs.LettersLeft.{letters_left}
 use Rattle.flow_core.specs.LiveText.{reports_told, report_count}
 use Rattle.flow_core.specs.Readings.{Flow}
-use Rattle.flow_core.specs.ReservedLists.{ReservedState}
+use Rattle.flow_lists.specs.ReservedLists.{ReservedState}
 use Rattle.flow_core.specs.States.{issued_as, some_count}
 use Rattle.flow_core.specs.Summaries.{Summary, summary, notice_after, outcome_at, step_ack, step_take, may_make}
 use Rattle.flow_core.specs.World.{World, Content, Failure, Taken, Answered, track_of, failures_met, after_ack, takeable, with_taken, after_take, notice_of, told_as}

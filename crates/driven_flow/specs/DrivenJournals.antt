@@ -9,7 +9,7 @@ use Rattle.flow_core.specs.declared.book.TicketLine.{TicketLine}
 use Rattle.flow_core.specs.declared.letter.Letter.TheVariants.{A, T, C}
 use Rattle.flow_core.specs.Books.{ticket_line, epoch_line}
 use Rattle.flow_core.specs.Readings.{Flow}
-use Rattle.flow_core.specs.ReservedLists.{ReservedState}
+use Rattle.flow_lists.specs.ReservedLists.{ReservedState}
 use Rattle.flow_core.specs.World.{World, notice_of}
 use Rattle.driven_flow.specs.declared.journal.Journal.{Journal}
 use Rattle.driven_flow.specs.Driven.{Given}

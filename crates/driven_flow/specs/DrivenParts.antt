@@ -16,7 +16,7 @@ use Rattle.campaign_core.specs.BareLetters.{due_to}
 use Rattle.flow_core.specs.declared.bare.Issued.{Issued}
 use Rattle.flow_core.specs.Bares.{reports_in}
 use Rattle.flow_core.specs.LiveText.{reports_told}
-use Rattle.flow_core.specs.Outbox.{Lies}
+use Rattle.flow_lists.specs.Outbox.{Lies}
 use Rattle.flow_core.specs.Readings.{Flow, env_of}
 use Rattle.flow_core.specs.States.{some_count}
 use Rattle.flow_core.specs.Summaries.{Summary}

@@ -5,7 +5,7 @@ ghost use Rattle.fold_machine.specs.MachineState.{Fits};
 ghost use Rattle.fold_machine.specs.Store.{slot_words};
 ghost use Rattle.slot_pool.specs.Pool.{free_of};
 ghost use Rattle.flow_core.specs.MachineCalls.{heard_on, outcome_and_env};
-ghost use Rattle.flow_core.specs.Outbox.{AreOwned, AreAsMany, Gains, LosesFirst, IsToldNext, notice_left};
+ghost use Rattle.flow_lists.specs.Outbox.{AreOwned, AreAsMany, Gains, LosesFirst, IsToldNext, notice_left};
 ghost use Rattle.flow_core.specs.States.{outcome_by};
 
 use ccp_base::{Ack, Report, Told};

@@ -23,7 +23,7 @@ use Rattle.flow_core.specs.declared.case.Case.{Case}
 use Rattle.flow_core.specs.declared.bare.Issued.{Issued}
 use Rattle.flow_core.specs.Readings.{env_of, code_at, over_codes}
 use Rattle.flow_core.specs.LiveText.{reports_told}
-use Rattle.flow_core.specs.Outbox.{Lies}
+use Rattle.flow_lists.specs.Outbox.{Lies}
 use Rattle.flow_core.specs.States.{some_count}
 use Rattle.flow_core.specs.Summaries.{Summary, step_reply, step_out, step_answer}
 use Rattle.flow_core.specs.Bares.{reports_in, out_by, summary_by, told_ticket, InRange, IsBare, closed_parts, ObeysBare}

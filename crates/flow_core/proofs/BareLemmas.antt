@@ -24,9 +24,9 @@ use Rattle.fold_machine.specs.MachineState.{Fits}
 use Rattle.fold_machine.specs.Store.{slot_words}
 use Rattle.slot_pool.specs.Pool.{PoolState, words_at, free_of}
 use Rattle.flow_core.specs.declared.bare.BareParts.{BareParts}
-use Rattle.flow_core.specs.Outbox.{OutboxState, report_words, ReportFits, AreStored, Lies, next_told, notice_left}
+use Rattle.flow_lists.specs.Outbox.{OutboxState, report_words, ReportFits, AreStored, Lies, next_told, notice_left}
 use Rattle.flow_core.specs.Readings.{Flow, env_of, code_at, by_code, over_codes}
-use Rattle.flow_core.specs.ReportWords.{narrow, report_in}
+use Rattle.flow_lists.specs.ReportWords.{narrow, report_in}
 use Rattle.flow_core.specs.States.{outcome_by, some_count}
 use Rattle.flow_core.specs.Summaries.{Summary, step_outcome, outcome_at, step_ack, next_telling, with_told, step_take, can_tell}
 use Rattle.flow_core.specs.Bares.{reports_in, out_by, summary_by, InRange, IsBare, step_note, step_machine, step_count, NotesBare, instructions_at}

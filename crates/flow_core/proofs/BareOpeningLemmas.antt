@@ -14,7 +14,7 @@ use Rattle.flow_core.specs.declared.bare.BareParts.{BareParts}
 use Rattle.flow_core.specs.declared.case.Case.{Case}
 use Rattle.flow_core.specs.Readings.{env_of, code_at, over_codes}
 use Rattle.flow_core.specs.World.{opening}
-use Rattle.flow_core.specs.Outbox.{OutboxState, Lies}
+use Rattle.flow_lists.specs.Outbox.{OutboxState, Lies}
 use Rattle.flow_core.specs.Summaries.{summary}
 use Rattle.flow_core.specs.Bares.{reports_in, summary_by, InRange, IsBare, IsFirst}
 use Rattle.flow_core.proofs.ValueLemmas.{values-alike}

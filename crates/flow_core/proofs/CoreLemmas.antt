@@ -15,7 +15,7 @@ use Rattle.flow_core.specs.Readings.{over_codes}
 use Rattle.flow_core.specs.World.{Taken, World, after_ack, after_take, after_answer}
 use Rattle.flow_core.specs.Words.{is_legal, legal_over}
 use Rattle.flow_core.specs.WordLaws.{acks_in, acks_in-A, acks_in-T, acks_in-C, world_over-append, legal_over-append}
-use Rattle.flow_core.specs.ReservedLists.{ReservedState}
+use Rattle.flow_lists.specs.ReservedLists.{ReservedState}
 use Rattle.flow_core.specs.Books.{ticket_of, out_ticket, epoch_line, IsBookOf}
 use Rattle.flow_core.specs.Cores.{CoreState, flow_in, world_in, out_in}
 use Rattle.flow_core.specs.States.{issued_as}

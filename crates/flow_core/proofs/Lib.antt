@@ -1,6 +1,4 @@
 -- The lemmas of flow_core, a file a topic.
-mod ReportWordLemmas
-mod OutboxLemmas
 pub mod BothLemmas
 pub mod MappedLemmas
 pub mod SimulatedEpochs

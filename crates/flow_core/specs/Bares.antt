@@ -27,8 +27,8 @@ use Rattle.flow_core.specs.World.{failure_with, notice_of}
 use Rattle.flow_core.specs.Cores.{ran_by}
 use Rattle.flow_core.specs.declared.bare.First.{First}
 use Rattle.flow_core.specs.Opening.{opened_machine}
-use Rattle.flow_core.specs.Outbox.{Lies, empty_outbox}
-use Rattle.flow_core.specs.ReportWords.{report_in}
+use Rattle.flow_lists.specs.Outbox.{Lies, empty_outbox}
+use Rattle.flow_lists.specs.ReportWords.{report_in}
 use Rattle.flow_core.specs.States.{some_count}
 use Rattle.flow_core.specs.Summaries.{Summary}
 

@@ -15,7 +15,7 @@ use Rattle.flow_core.specs.Readings.{over_codes}
 use Rattle.flow_core.specs.ReadsRates.{case_reads_rates}
 use Rattle.flow_core.specs.Words.{most_letters, legal_over}
 use Rattle.flow_core.specs.WordLaws.{acks_in}
-use Rattle.flow_core.specs.ReservedLists.{ReservedState}
+use Rattle.flow_lists.specs.ReservedLists.{ReservedState}
 use Rattle.flow_core.specs.Cores.{CoreState}
 use Rattle.flow_core.specs.States.{some_count}
 use Rattle.flow_core.specs.Summaries.{Summary}

@@ -1,14 +1,12 @@
 -- The definitions of flow_core, a file each; files named ..Laws have what follows from them.
 
 -- those that contracts of public calls cite, here and in the crates above: a flow's state and its word, what is kept of
--- it, its outbox and lists, and the text of a live run
+-- it, and the text of a live run
 pub mod Readings
 pub mod World
 pub mod Cases
 pub mod ReadsRates
 pub mod Words
-pub mod ReservedLists
-pub mod Outbox
 pub mod Lift
 pub mod Books
 pub mod Cores
@@ -20,7 +18,6 @@ pub mod SummaryLaw
 pub mod Bares
 pub mod BookFlows
 -- those that only private contracts, invariants and proofs cite
-pub mod ReportWords
 pub mod WordLaws
 pub mod States
 pub mod Opening

@@ -5,9 +5,9 @@ ghost use Rattle.flow_core.specs.Journals.{journal_answer, journal_line};
 
 use crate::book::{EpochLine, TicketLine};
 use crate::letter::Letter;
-use crate::reserved_list::ReservedList;
 use agent_core::Answer;
 use ccp_base::{NoMemory, Notice};
+use flow_lists::ReservedList;
 use std::alloc::Global;
 
 /// What no later letter depends on, but for the acknowledgements.

@@ -1,11 +1,11 @@
 //! The last report of a machine, written into one of the machine's further slots. Its fields are copied from slot to slot.
 ghost use Rattle.std.specs.Prelude.{◌≡◌, ◌+◌, ◌<◌, ◌≤◌, None, Some, option_map, length};
 ghost use Rattle.slot_pool.specs.Pool.{words_at, free_of, ChangesSlot};
-ghost use Rattle.flow_core.specs.Outbox.{most_report_words, head_words, ReportFits, Stores};
-ghost use Rattle.flow_core.specs.ReportWords.{with_fields};
+ghost use Rattle.flow_lists.specs.Outbox.{most_report_words, head_words, ReportFits, Stores};
+ghost use Rattle.flow_lists.specs.ReportWords.{with_fields};
 
-use crate::report_words::{HEAD_WORDS, head};
 use ccp_base::Report;
+use flow_lists::{HEAD_WORDS, report_head};
 use fold_machine::Machine;
 use slot_pool::{Full, Slot};
 
@@ -34,7 +34,7 @@ fn last_head(machine: &Machine, report: &Report) -> [u64; HEAD_WORDS]
     ensures words { result ≡ head_words (with_fields machine.now.report report.entry.now) }
     ensures in_range { ReportFits (with_fields machine.now.report report.entry.now) }
 {
-    let mut words = head(report);
+    let mut words = report_head(report);
     words[HEAD_WORDS - 1] = machine.reported_words().len() as u64;
     words
 }

@@ -5,13 +5,13 @@ ghost use Rattle.fold_machine.specs.MachineState.{Fits};
 ghost use Rattle.fold_machine.specs.Store.{slot_words};
 ghost use Rattle.slot_pool.specs.Pool.{free_of};
 ghost use Rattle.flow_core.specs.MachineCalls.{heard_on, outcome_and_env, ran_on};
-ghost use Rattle.flow_core.specs.Outbox.{AreOwned, AreAsMany, Gains, LosesFirst, IsToldNext, notice_left};
-ghost use Rattle.flow_core.specs.ReportWords.{with_fields};
+ghost use Rattle.flow_lists.specs.Outbox.{AreOwned, AreAsMany, Gains, LosesFirst, IsToldNext, notice_left};
+ghost use Rattle.flow_lists.specs.ReportWords.{with_fields};
 ghost use Rattle.flow_core.specs.States.{outcome_by};
 
 use crate::last_report::store_last;
-use crate::outbox::Outbox;
 use ccp_base::{Ack, Report, Told};
+use flow_lists::Outbox;
 use fold_machine::{Acked, Machine, Steps};
 use reg_code::Checked;
 use std::sync::ledger::Ledger;

@@ -1,6 +1,6 @@
 //! Outboxes over a pool of their own.
 ghost use Rattle.std.specs.Prelude.{◌≤◌};
-ghost use Rattle.flow_core.specs.Outbox.{AreOwned};
+ghost use Rattle.flow_lists.specs.Outbox.{AreOwned};
 
 use ccp_base::{FaultKind, Notice, Report, Told, Values};
 use flow_core::Outbox;

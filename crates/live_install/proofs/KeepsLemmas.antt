@@ -23,7 +23,7 @@ use Rattle.fold_machine.specs.Heard.{started_by}
 use Rattle.link_model.specs.Standing.{LinkState, Stands}
 use Rattle.flow_core.specs.declared.book.EpochLine.{EpochLine}
 use Rattle.flow_core.specs.Readings.{env_of}
-use Rattle.flow_core.specs.ReservedLists.{ReservedState}
+use Rattle.flow_lists.specs.ReservedLists.{ReservedState}
 use Rattle.flow_core.specs.World.{Failure, with_event, failures_met}
 use Rattle.flow_core.specs.Books.{epoch_line}
 use Rattle.flow_core.proofs.SimulatedEpochs.{IsEnvOf-after, declared-simulated}

@@ -2,7 +2,7 @@
 ghost use Rattle.std.specs.Prelude.{◌≡◌, None, is_some, drop};
 ghost use Rattle.std.specs.Bool.{OnTrue};
 ghost use Rattle.flow_core.specs.declared.letter.Letter.TheVariants.{T};
-ghost use Rattle.flow_core.specs.Outbox.{next_told, notice_left};
+ghost use Rattle.flow_lists.specs.Outbox.{next_told, notice_left};
 ghost use Rattle.flow_core.specs.Words.{can_take, is_legal, is_complete};
 ghost use Rattle.source_flow.specs.SourceStates.{flow_over_sources, IsSourceSound};
 ghost use Rattle.source_flow.specs.SourceMoves.{Makes, Shows};

@@ -1,8 +1,8 @@
 use Rattle.std.proofs.Common.{◌≡◌, List, ℕ, ap, ◌∙◌}
 use Rattle.slot_pool.specs.Pool.{words_at}
 use Rattle.fold_machine.specs.MachineState.{MachineState}
-use Rattle.flow_core.specs.ReportWords.{with_fields}
-use Rattle.flow_core.proofs.ReportWordLemmas.{written_report_as_is}
+use Rattle.flow_lists.specs.ReportWords.{with_fields}
+use Rattle.flow_lists.proofs.ReportWordLemmas.{written_report_as_is}
 use Rattle.flow_core.proofs.last_report.store_last.Goals as goal
 
 pub returns-clause-stored : goal.returns-clause-stored

@@ -1,8 +1,8 @@
 use Rattle.std.proofs.Common.{◌∷◌, [], ◌++◌, sym, subst}
 use Rattle.slot_pool.specs.Pool.{words_at}
-use Rattle.flow_core.specs.Outbox.{OutboxState, Lies}
-use Rattle.flow_core.specs.ReportWords.{with_fields}
-use Rattle.flow_core.proofs.OutboxLemmas.{lies-pushed}
+use Rattle.flow_lists.specs.Outbox.{OutboxState, Lies}
+use Rattle.flow_lists.specs.ReportWords.{with_fields}
+use Rattle.flow_lists.proofs.OutboxLemmas.{lies-pushed}
 use Rattle.flow_core.proofs.machine_calls.put_last_report.Goals as goal
 
 pub returns-clause-gained : goal.returns-clause-gained

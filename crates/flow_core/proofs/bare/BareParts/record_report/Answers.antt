@@ -1,7 +1,7 @@
 use Rattle.std.proofs.Common.{ap, ◌∙◌, ◌+◌}
 use Rattle.ccp_base.specs.RunningEpochs.{report_at, reported_epoch}
 use Rattle.flow_core.specs.Bares.{reports_in}
-use Rattle.flow_core.specs.ReportWords.{with_fields}
+use Rattle.flow_lists.specs.ReportWords.{with_fields}
 use Rattle.flow_core.proofs.BareLemmas.{noted-report}
 use Rattle.flow_core.proofs.bare.BareParts.record_report.Goals as goal
 

@@ -1,8 +1,8 @@
 use Rattle.std.proofs.Common.{ℕ, None, sym, ap, ◌∙◌}
 use Rattle.circular_buffer.specs.Buffer.{Buffer}
-use Rattle.flow_core.specs.Outbox.{OutboxState}
-use Rattle.flow_core.proofs.OutboxLemmas.{lies-popped}
-use Rattle.flow_core.proofs.outbox.Outbox.pop_into.Goals as goal
+use Rattle.flow_lists.specs.Outbox.{OutboxState}
+use Rattle.flow_lists.proofs.OutboxLemmas.{lies-popped}
+use Rattle.flow_lists.proofs.outbox.Outbox.pop_into.Goals as goal
 
 pub returns-clause-lost_first : goal.returns-clause-lost_first
 returns-clause-lost_first g c = λ reports lies.

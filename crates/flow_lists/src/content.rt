@@ -3,8 +3,8 @@ ghost use Rattle.std.specs.Prelude.{◌≡◌, ◌+◌, ◌≤◌, None, length}
 ghost use Rattle.ccp_base.specs.Limits.{most_fields};
 ghost use Rattle.ccp_base.specs.declared.exchange.Report.{Report};
 ghost use Rattle.slot_pool.specs.Pool.{IsOut, free_of, ChangesSlot};
-ghost use Rattle.flow_core.specs.Outbox.{most_report_words, Stores};
-ghost use Rattle.flow_core.specs.ReportWords.{report_in};
+ghost use Rattle.flow_lists.specs.Outbox.{most_report_words, Stores};
+ghost use Rattle.flow_lists.specs.ReportWords.{report_in};
 
 use crate::report_words::{HEAD_WORDS, field_count, narrow, read};
 use ccp_base::{Report, Told, Values};

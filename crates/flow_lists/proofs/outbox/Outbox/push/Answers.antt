@@ -1,8 +1,8 @@
 use Rattle.std.proofs.Common.{◌≡◌, ℕ, List, [], ◌∷◌, ◌++◌, sym, ap, subst}
 use Rattle.slot_pool.specs.Pool.{words_at}
-use Rattle.flow_core.specs.Outbox.{OutboxState, AreOwned, Lies}
-use Rattle.flow_core.proofs.OutboxLemmas.{owned-pushed_report, lies-pushed, kept_whole}
-use Rattle.flow_core.proofs.outbox.Outbox.push.Goals as goal
+use Rattle.flow_lists.specs.Outbox.{OutboxState, AreOwned, Lies}
+use Rattle.flow_lists.proofs.OutboxLemmas.{owned-pushed_report, lies-pushed, kept_whole}
+use Rattle.flow_lists.proofs.outbox.Outbox.push.Goals as goal
 
 pub returns-clause-owned : goal.returns-clause-owned
 returns-clause-owned g c =

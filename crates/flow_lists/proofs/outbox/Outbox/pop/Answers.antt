@@ -1,8 +1,8 @@
 use Rattle.std.proofs.Common.{ℕ, None, sym, ap, ◌∙◌}
 use Rattle.circular_buffer.specs.Buffer.{Buffer}
-use Rattle.flow_core.specs.Outbox.{OutboxState}
-use Rattle.flow_core.proofs.OutboxLemmas.{owned-popped, lies-popped}
-use Rattle.flow_core.proofs.outbox.Outbox.pop.Goals as goal
+use Rattle.flow_lists.specs.Outbox.{OutboxState}
+use Rattle.flow_lists.proofs.OutboxLemmas.{owned-popped, lies-popped}
+use Rattle.flow_lists.proofs.outbox.Outbox.pop.Goals as goal
 
 pub returns-in-Some-clause-owned : goal.returns-in-Some-clause-owned
 returns-in-Some-clause-owned g c =

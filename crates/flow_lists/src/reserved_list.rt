@@ -14,7 +14,7 @@ pub struct ReservedList<T> {
 
 impl<T> Model for ReservedList<T> {
     ghost use Rattle.std.specs.Prelude.{vec_capacity};
-    ghost use Rattle.flow_core.specs.ReservedLists.{ReservedState, reserved_code};
+    ghost use Rattle.flow_lists.specs.ReservedLists.{ReservedState, reserved_code};
 
     ghost Value = { ReservedState T };
 

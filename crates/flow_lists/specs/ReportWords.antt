@@ -4,7 +4,7 @@ use Rattle.std.specs.Prelude.{option_map}
 use Rattle.ccp_base.specs.Limits.{most_fields}
 use Rattle.ccp_base.specs.declared.exchange.Report.{Report}
 use Rattle.slot_pool.specs.Pool.{PoolState, words_at, ChangesSlot}
-use Rattle.flow_core.specs.Outbox.{head_word_count}
+use Rattle.flow_lists.specs.Outbox.{head_word_count}
 
 -- the words of a slot, with these written over them from a place on
 abbrev pub written_over : Option (List ℕ) → ℕ → List ℕ → Option (List ℕ)

@@ -4,7 +4,7 @@ use Rattle.circular_buffer.specs.Buffer.{Buffer, buffer, keep_last}
 use Rattle.ccp_base.specs.declared.exchange.Report.{Report}
 use Rattle.slot_pool.specs.Pool.{PoolState, words_at, IsOut, ChangesSlot}
 use Rattle.slot_pool.specs.PoolLaws.{IsOut-kept, free_apart}
-use Rattle.flow_core.specs.Outbox.{OutboxState, report_words, Stores, AreStored, AreOther, AreOwned, Lies}
+use Rattle.flow_lists.specs.Outbox.{OutboxState, report_words, Stores, AreStored, AreOther, AreOwned, Lies}
 
 -- ---- the slots, while another one changes
 

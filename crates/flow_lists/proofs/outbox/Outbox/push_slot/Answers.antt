@@ -1,8 +1,8 @@
 use Rattle.std.proofs.Common.{◌≡◌, ℕ, [], ◌∷◌, ◌++◌, ap, ◌∙◌}
 use Rattle.circular_buffer.specs.Buffer.{Buffer}
-use Rattle.flow_core.specs.Outbox.{OutboxState}
-use Rattle.flow_core.proofs.OutboxLemmas.{kept_whole}
-use Rattle.flow_core.proofs.outbox.Outbox.push_slot.Goals as goal
+use Rattle.flow_lists.specs.Outbox.{OutboxState}
+use Rattle.flow_lists.proofs.OutboxLemmas.{kept_whole}
+use Rattle.flow_lists.proofs.outbox.Outbox.push_slot.Goals as goal
 
 pub returns : goal.returns
 returns c =

@@ -1,8 +1,8 @@
 use Rattle.std.proofs.Common.{◌≡◌, ◌+◌, ◌≤◌, length}
 use Rattle.slot_pool.specs.Pool.{words_at, IsOut, free_of, ChangesSlot}
-use Rattle.flow_core.specs.Outbox.{most_report_words}
-use Rattle.flow_core.specs.ReportWords.{written_over}
-use Rattle.flow_core.proofs.report_words.write.Given as goal
+use Rattle.flow_lists.specs.Outbox.{most_report_words}
+use Rattle.flow_lists.specs.ReportWords.{written_over}
+use Rattle.flow_lists.proofs.report_words.write.Given as goal
 
 abbrev pub invariant-loop-word : goal.invariant-loop-word
 invariant-loop-word g l = record {

@@ -1,5 +1,5 @@
 use Rattle.std.proofs.Common.{◌≡◌, take}
-use Rattle.flow_core.proofs.content.set_values.Given as goal
+use Rattle.flow_lists.proofs.content.set_values.Given as goal
 
 abbrev pub invariant-loop-number : goal.invariant-loop-number
 invariant-loop-number l = l.values ≡ take l.number-index l.numbers

@@ -3,14 +3,14 @@ ghost use Rattle.std.specs.Prelude.{◌≡◌, ◌+◌, ◌<◌, ◌≤◌, min,
 ghost use Rattle.ccp_base.specs.Limits.{most_fields};
 ghost use Rattle.ccp_base.specs.declared.exchange.Report.{Report};
 ghost use Rattle.slot_pool.specs.Pool.{words_at, IsOut, free_of, ChangesSlot};
-ghost use Rattle.flow_core.specs.Outbox.{most_report_words, head_words, ReportFits, Stores};
-ghost use Rattle.flow_core.specs.ReportWords.{WritesOver, narrow, report_in};
+ghost use Rattle.flow_lists.specs.Outbox.{most_report_words, head_words, ReportFits, Stores};
+ghost use Rattle.flow_lists.specs.ReportWords.{WritesOver, narrow, report_in};
 
 use ccp_base::{FIELDS, Report, Values};
 use slot_pool::{Full, Slot, Slots};
 
 /// How many words stand before the fields of a report: its numbers, and how many fields it has.
-pub(crate) const HEAD_WORDS: usize = 9;
+pub const HEAD_WORDS: usize = 9;
 
 /// How many words of a slot no report takes. The longest report takes 73, and a slot of 80 is ten cache lines of 64
 /// bytes.
@@ -35,14 +35,14 @@ pub(crate) fn store<P: Slots>(slots: &mut P, report: &Report) -> Slot
         Ok(slot) => slot,
         Err(Full) => unreachable!(),
     };
-    write(slots, &slot, 0, &head(report));
+    write(slots, &slot, 0, &report_head(report));
     write(slots, &slot, HEAD_WORDS as u32, report.fields.as_slice());
     slot
 }
 
 /// The words of a report that stand before its fields.
 #[inline(always)]
-pub(crate) fn head(report: &Report) -> [u64; HEAD_WORDS]
+pub fn report_head(report: &Report) -> [u64; HEAD_WORDS]
     ensures words { result ≡ head_words report.entry.now }
     ensures in_range { ReportFits report.entry.now }
 {

@@ -5,8 +5,8 @@ use Rattle.std.proofs.lemmas.List.{append-nil, length-replicate}
 use Rattle.std.proofs.lemmas.Option.{none-some}
 use Rattle.ccp_base.specs.declared.exchange.Report.{Report}
 use Rattle.slot_pool.specs.Pool.{with_run}
-use Rattle.flow_core.specs.Outbox.{head_word_count, most_report_words, head_words, report_words, ReportFits}
-use Rattle.flow_core.specs.ReportWords.{written_over}
+use Rattle.flow_lists.specs.Outbox.{head_word_count, most_report_words, head_words, report_words, ReportFits}
+use Rattle.flow_lists.specs.ReportWords.{written_over}
 
 -- one word is written at the place after a front
 written_once : (front : List ℕ) (x : ℕ) (rest : List ℕ) (at word : ℕ) → at ≡ length front → slice_set (front ++ x ∷ rest) at word ≡ (front ++ word ∷ []) ++ rest

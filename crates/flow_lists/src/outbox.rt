@@ -4,8 +4,8 @@ ghost use Rattle.std.specs.Prelude.{IsNone, IsSome, IsTrue, IfOk, option_map};
 ghost use Rattle.ccp_base.specs.Limits.{most_slots};
 ghost use Rattle.ccp_base.specs.declared.exchange.Report.{Report};
 ghost use Rattle.slot_pool.specs.Pool.{words_at, free_of, ChangesSlot};
-ghost use Rattle.flow_core.specs.Outbox.{empty_outbox, most_report_words, AreOwned, AreWide, AreAsMany, Gains};
-ghost use Rattle.flow_core.specs.Outbox.{LosesFirst, ChangesOnly, newest, GivesFirst, IsToldNext, notice_left};
+ghost use Rattle.flow_lists.specs.Outbox.{empty_outbox, most_report_words, AreOwned, AreWide, AreAsMany, Gains};
+ghost use Rattle.flow_lists.specs.Outbox.{LosesFirst, ChangesOnly, newest, GivesFirst, IsToldNext, notice_left};
 
 use crate::content::take_content;
 use crate::report_words::{store, take_report};
@@ -26,7 +26,7 @@ pub struct Outbox {
 impl Model for Outbox {
     ghost use Rattle.std.specs.Prelude.{◌≤◌};
     ghost use Rattle.ccp_base.specs.Limits.{most_slots};
-    ghost use Rattle.flow_core.specs.Outbox.{OutboxState};
+    ghost use Rattle.flow_lists.specs.Outbox.{OutboxState};
 
     ghost Value = { OutboxState };
 
@@ -126,7 +126,7 @@ impl Outbox {
 
     // A ticket's content is large, and a flow makes one for each report: it is put where it stays.
     /// As `pop`, into the place of a ticket's content. A report must wait, or the notice be untold.
-    pub(crate) fn pop_into<P: Slots>(&mut self, slots: &mut P, content: &mut Told)
+    pub fn pop_into<P: Slots>(&mut self, slots: &mut P, content: &mut Told)
         requires some { (self.old.slots ≡ []) × (self.old.untold ≡ None) → ⊥ }
         requires wide { AreWide (P.pool slots.old) self.old.slots }
         requires owned { AreOwned (P.pool slots.old) self.old.slots }
@@ -160,7 +160,7 @@ impl Outbox {
     }
 
     /// Puts a slot at the end. There must be room.
-    pub(crate) fn push_slot(&mut self, slot: Slot)
+    pub fn push_slot(&mut self, slot: Slot)
         requires { length self.old.slots < self.old.size }
         ensures { self.new ≡ record self.old { slots = self.old.slots ++ slot ∷ [] } }
     {

@@ -1,0 +1,3 @@
+-- The lemmas of flow_lists, a file a topic.
+pub mod ReportWordLemmas
+pub mod OutboxLemmas
