@@ -1,6 +1,6 @@
 //! A flow without its link: its caller gives it each acknowledgement, and its end gives the book.
 ghost use Rattle.std.specs.Prelude.{◌≡◌, ◌+◌, ◌-◌, ◌<◌, ◌≤◌, ◌↔◌, ◌∷◌, [], ◌++◌, ℕ, true, Some, option_map, slice_get};
-ghost use Rattle.std.specs.Prelude.{length, Err, IsOk, IsErr, IfOk, IfErr, OnOk, OnErr};
+ghost use Rattle.std.specs.Prelude.{length, Err, IsTrue, IsOk, IsErr, IfOk, IfErr, OnOk, OnErr};
 ghost use Rattle.ccp_base.specs.Outside.{no_memory};
 ghost use Rattle.flow_core.specs.World.{track_of, after_take, after_answer};
 ghost use Rattle.flow_core.specs.Words.{is_still, is_legal, legal_over};
@@ -164,15 +164,33 @@ impl Core {
         ensures stale { IfErr result (λ stale. (stale.answer ≡ answer) × (stale.out ≡ out_number self.old)) }
         ensures unchanged { OnErr result (self.new ≡ self.old) }
     {
-        let Some(ticket) = self.out() else {
-            return Err(Stale { answer, out: None });
-        };
-        if !ticket.same(answer.ticket()) {
-            let out = Some(ticket.number);
+        if !self.is_out(answer.ticket()) {
+            let out = self.out_number();
             return Err(Stale { answer, out });
         }
         self.apply(&answer);
         Ok(())
+    }
+
+    // A function of its own: it has the answer's ticket by reference, so that none of its exits drops the answer.
+    /// Whether this ticket is the one that is out.
+    fn is_out(&self, ticket: &Ticket) -> bool
+        ensures { IsTrue result ↔ (out_in self.now ≡ Some ticket.now) }
+    {
+        let Some(out) = self.out() else {
+            return false;
+        };
+        out.same(ticket)
+    }
+
+    /// The number of the ticket that is out, if one is.
+    fn out_number(&self) -> Option<u32>
+        ensures { result ≡ out_number self.now }
+    {
+        let Some(ticket) = self.out() else {
+            return None;
+        };
+        Some(ticket.number)
     }
 
     /// Applies the answer to the ticket that is out.
