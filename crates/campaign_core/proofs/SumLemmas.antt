@@ -45,7 +45,7 @@ answer-acked : (case : LinkCase) (packets : List Packet) (givens : List GivenAck
 answer-acked case packets givens flight (arrives number sent_at chance marked) = omega arith
 answer-acked case packets givens flight all_lost = omega arith
 
-timeout-one : (b : Bool) → (if b then 1 else 0) ≤ 1
+pub timeout-one : (b : Bool) → (if b then 1 else 0) ≤ 1
 timeout-one true = omega arith
 timeout-one false = omega arith
 

@@ -1,7 +1,7 @@
 -- What a round of the link answers: no more acknowledgements than were asked for, and each of them with small numbers.
-use Rattle.std.specs.Prelude.{◌≡◌, ◌<◌, ◌≤◌, ℕ, zero, suc, ◌+◌, ◌*◌, ◌==◌, Bool, true, false, ◌&&◌, nat_lt, if◌then◌else◌, Some, None, unwrap_or, List, [], ◌∷◌, ◌++◌, length, slice_get, refl}
+use Rattle.std.specs.Prelude.{◌≡◌, ◌<◌, ◌≤◌, ℕ, zero, suc, ◌+◌, ◌*◌, ◌==◌, Bool, true, false, ◌&&◌, nat_lt, if◌then◌else◌, Some, unwrap_or, List, [], ◌∷◌, ◌++◌, length, slice_get, refl}
 use Rattle.std.specs.List.{All}
-use Rattle.std.proofs.Common.{arith, ap, sym, ◌∙◌, length-append}
+use Rattle.std.proofs.Common.{arith, ap, sym, ◌∙◌}
 use Rattle.std.proofs.lemmas.Option.{same_Some, none-some}
 use Rattle.ccp_base.specs.declared.ack.Ack.{Ack}
 use Rattle.campaign_core.proofs.BoundLemmas.{lost-most, flight-most}
@@ -11,6 +11,7 @@ use Rattle.shared_link.specs.declared.shared_case.FlowLink.{FlowLink}
 use Rattle.shared_link.specs.declared.shared_case.SharedCase.{SharedCase}
 use Rattle.shared_link.specs.SharedLimits.{IsFlowWithin, IsWithin}
 use Rattle.shared_link.specs.SharedRounds.{Sent, SharedLinkRun, flow_link_at, no_flow, ask_at, own_packets, allowed, packet_after, lacks, some_lacks, sending_turn, turns_of, round_time, sent_by, next_before, arrival_given, are_lost, timeout_given, timeout_at, timeouts, answers_after, answers, round_givens, with_round, shared_run_from, shared_run_of, acks_of_givens, each_flow, acks_after}
+use Rattle.shared_rounds.proofs.RoundsLemmas.{each-length}
 
 -- ---- how many
 
@@ -158,10 +159,6 @@ round-few case asks run sent flow =
     omega (arith, few, acks-length (round_givens case asks run sent flow))
 
 -- ---- the lists of flows
-
-pub each-length : (n : ℕ) (acks : ℕ → List Ack) → length (each_flow n acks) ≡ n
-each-length zero acks = refl
-each-length (suc flow) acks = omega (arith, each-length flow acks, length-append (each_flow flow acks) (acks flow ∷ []))
 
 get-last : {A P : Type 0} (front : List A) (last : A) (i : ℕ) (one : A) → slice_get (front ++ last ∷ []) i ≡ Some one
     → (slice_get front i ≡ Some one → P) → (i ≡ length front → one ≡ last → P) → P

@@ -9,7 +9,7 @@ use Rattle.shared_link.specs.declared.round.Ask.{Ask}
 use Rattle.shared_link.specs.declared.shared_case.SharedCase.{SharedCase}
 use Rattle.shared_link.specs.SharedRounds.{ask_at, sent_by, round_givens, shared_run_of, acks_of_givens, acks_after}
 use Rattle.shared_run.specs.SharedHistory.{asks_of}
-use Rattle.shared_run.proofs.AnswerLemmas.{round-few, each-length, each-get}
+use Rattle.shared_run.proofs.AnswerLemmas.{round-few, each-get}
 
 -- a flow has no more acknowledgements than its case
 abbrev pub KeepsCount : CoreState → Type 0
@@ -64,8 +64,3 @@ within-after case rounds flows keep =
     let left = ask-left flows i core there in
     let most = keeps-at flows keep i core there in
     omega (arith, same, few, left, most))
-
--- the lists of a round are one a flow
-pub lists-length : (case : SharedCase) (rounds : List (List Ask)) (asks : List Ask) → length (acks_after case rounds asks) ≡ length case.flows
-lists-length case rounds asks =
-    each-length (length case.flows) (λ flow. acks_of_givens (round_givens case asks (shared_run_of case rounds) (sent_by case asks (shared_run_of case rounds)) flow))

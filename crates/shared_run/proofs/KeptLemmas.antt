@@ -13,7 +13,7 @@ use Rattle.campaign_core.specs.FlowRow.{opened}
 use Rattle.shared_run.specs.RoundLetters.{round_part, closed_flow}
 use Rattle.shared_run.specs.SharedHistory.{ask_of}
 use Rattle.shared_run.specs.RoundFlows.{AreRoomy, kept_at, run_flow_in, HasHistory, MayHear}
-use Rattle.shared_run.specs.Courses.{flows_after, asks_in, acks_in_round}
+use Rattle.shared_run.specs.Courses.{flows_after, asks_in, acks_in}
 use Rattle.campaign_core.specs.GivenFlows.{IsAfterHistory, Goes}
 use Rattle.shared_run.proofs.BookLemmas.{after-kept, kept-after}
 use Rattle.shared_run.proofs.CourseLemmas.{flow_fits, flow_next, flow_asks, opened_at}
@@ -54,7 +54,7 @@ module _ {F : Type 0} (at : CoreState → F) (link : SharedCase) (cases : List C
   -- ---- a part of a round, of a flow that has rested
 
   module _ (since round number : ℕ) (acks : List Ack) (flow : F) (tally : Tally)
-      (are : slice_get (acks_in_round link cases round) number ≡ Some acks)
+      (are : slice_get (acks_in link cases round) number ≡ Some acks)
       (rests : slice_get (flows_after link cases since) number ≡ slice_get (flows_after link cases round) number) where
     pub may-hear : ((core : CoreState) → slice_get (flows_after link cases (round + 1)) number ≡ Some core → AreRoomy core.acks)
         → run_flow_in at link cases since number ≡ Some (flow, tally) → MayHear at acks flow tally

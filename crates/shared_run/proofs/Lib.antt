@@ -6,11 +6,9 @@ pub mod LiftedFlowLemmas
 pub mod LiftedRunLemmas
 pub mod AnswerLemmas
 pub mod CountLemmas
-pub mod OrderLemmas
 pub mod RoomyLemmas
 pub mod CourseLemmas
 pub mod BookLemmas
 pub mod KeptLemmas
 pub mod RunLemmas
 pub mod ReportLemmas
-pub mod KnownLemmas

@@ -1,5 +1,5 @@
 -- A flow of a run on the way of its part of a round and of its end, whatever it keeps of its history.
-use Rattle.std.specs.Prelude.{◌≡◌, ◌<◌, ◌≤◌, ◌-◌, Bool, true, false, if◌then◌else◌, Result, Ok, Err, IfOk, List, [], ◌∷◌, ◌++◌, length}
+use Rattle.std.specs.Prelude.{◌≡◌, ◌<◌, ◌≤◌, ◌-◌, Bool, true, false, List, [], ◌∷◌, ◌++◌, length}
 use Rattle.std.proofs.Common.{arith, ap, sym, ◌∙◌, subst, length-append, append_assoc}
 use Rattle.std.proofs.lemmas.Bool.{lt-ltb}
 use Rattle.ccp_base.specs.declared.ack.Ack.{Ack}
@@ -17,7 +17,7 @@ use Rattle.campaign_core.specs.BareLetters.{left_in}
 use Rattle.campaign_core.specs.FlowRow.{world_of_core, with_letter}
 use Rattle.campaign_core.specs.GivenFlows.{bare_after, MayMake, IsAfterHistory, Goes}
 use Rattle.campaign_core.proofs.GivenFlowLemmas.{left-bare, acks-world, is-bare, bare-at}
-use Rattle.campaign_core.proofs.SumLemmas.{sums-append}
+use Rattle.campaign_core.proofs.SumLemmas.{sums-append, timeout-one}
 use Rattle.shared_link.specs.declared.round.Ask.{Ask}
 use Rattle.shared_run.specs.RoundLetters.{answers_next, after_settling, with_settled_ack, round_part}
 use Rattle.shared_run.specs.SharedHistory.{ask_of}
@@ -25,10 +25,6 @@ use Rattle.shared_run.specs.RoundFlows.{AreRoomy, HasHistory, MayHear, Took, Mak
 use Rattle.shared_run.proofs.TurnLemmas.{next-C, next-T, next-none, answer-legal, fewer, settled-turn, settled-none, settled-acks, settled-case}
 
 -- ---- sums
-
-timeout-one : (b : Bool) → (if b then 1 else 0) ≤ 1
-timeout-one true = omega arith
-timeout-one false = omega arith
 
 timeouts-most : (acks : List Ack) → timeouts_in acks ≤ length acks
 timeouts-most [] = omega arith

@@ -1,5 +1,5 @@
 -- The run of cases over a link round by round, without the test for its end.
-use Rattle.std.specs.Prelude.{◌≡◌, ◌<◌, ◌≤◌, ℕ, zero, suc, ◌==◌, Bool, true, false, ◌&&◌, List, [], ◌∷◌, map}
+use Rattle.std.specs.Prelude.{◌≡◌, ◌<◌, ◌≤◌, ℕ, zero, suc, true, false, List, [], map}
 use Rattle.ccp_base.specs.declared.ack.Ack.{Ack}
 use Rattle.flow_core.specs.declared.case.Case.{Case}
 use Rattle.flow_core.specs.Readings.{over_codes}
@@ -7,10 +7,9 @@ use Rattle.flow_core.specs.Cores.{CoreState}
 use Rattle.shared_link.specs.declared.round.Ask.{Ask}
 use Rattle.shared_link.specs.declared.shared_case.SharedCase.{SharedCase}
 use Rattle.shared_link.specs.SharedRounds.{acks_after}
-use Rattle.shared_link.specs.SharedStanding.{SharedState, Stands}
 use Rattle.campaign_core.specs.FlowRow.{CaseReading, opened}
 use Rattle.shared_run.specs.SharedHistory.{Progress, progress, asks_of, after_round, have_all}
-use Rattle.shared_run.specs.SharedHistory.{rounds_from, round_limit, whole_run}
+use Rattle.shared_run.specs.SharedHistory.{round_limit, whole_run}
 
 -- the run after this many rounds
 abbrev pub run_after : {X : Type 0} → SharedCase → CaseReading X → List Case → ℕ → Progress
@@ -26,25 +25,9 @@ abbrev pub asks_in : SharedCase → List Case → ℕ → List Ask
 asks_in link cases rounds = asks_of over_codes (flows_after link cases rounds)
 
 -- and each flow's acknowledgements in it
-abbrev pub acks_in_round : SharedCase → List Case → ℕ → List (List Ack)
-acks_in_round link cases rounds =
+abbrev pub acks_in : SharedCase → List Case → ℕ → List (List Ack)
+acks_in link cases rounds =
     acks_after link (run_after link over_codes cases rounds).history (asks_in link cases rounds)
-
--- no flow asks for an acknowledgement
-abbrev pub none_left : List Ask → Bool
-none_left [] = true
-none_left (ask ∷ rest) = (ask.left == 0) && none_left rest
-
--- the link stands as the run does after this many rounds
-pub record StandsAfter (link : SharedCase) (cases : List Case) (rounds : ℕ) (state : SharedState) : Type 0 where
-  pub case : state.case ≡ link
-  pub rounds_are : state.rounds ≡ rounds
-  pub stands : Stands state (run_after link over_codes cases rounds).history
-
--- the run of at most `most` rounds ended after `rounds`, and the link is in this state
-pub record HasEnded (link : SharedCase) (cases : List Case) (most rounds : ℕ) (state : SharedState) : Type 0 where
-  pub stands : StandsAfter link cases rounds state
-  pub whole : run_after link over_codes cases rounds ≡ rounds_from link over_codes most (progress [] (map opened cases))
 
 -- ---- the end
 

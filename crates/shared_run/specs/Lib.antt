@@ -8,9 +8,7 @@ pub mod SharedBooks
 pub mod WholeRun
 pub mod LiftedRun
 pub mod SharedReports
--- those that only private contracts, invariants and proofs cite
+-- those that only private contracts, invariants and proofs cite, and the laws of a run's course
 pub mod RoundFlows
 pub mod LiftedFlow
-pub mod Orders
-pub mod KnownFlows
-pub mod RunStarts
+pub mod CourseLaws

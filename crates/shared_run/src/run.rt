@@ -5,22 +5,22 @@ ghost use Rattle.flow_core.specs.Readings.{over_codes};
 ghost use Rattle.scene_core.specs.CasePlans.{plan_of, AreFlowsFrom, flow_link_of, link_at_once};
 ghost use Rattle.shared_link.specs.SharedLimits.{IsWithin};
 ghost use Rattle.shared_run.specs.SharedHistory.{flows_at_end, round_limit, shared_rows, shared_counts};
-ghost use Rattle.shared_run.specs.Courses.{StandsAfter, EndsInTime};
+ghost use Rattle.shared_rounds.specs.Rounds.{StandsAfter};
+ghost use Rattle.shared_run.specs.Courses.{asks_in, EndsInTime};
 ghost use Rattle.shared_run.specs.RoundFlows.{kept_at};
 ghost use Rattle.shared_run.specs.WholeRun.{IsRunOf};
 ghost use Rattle.shared_run.specs.LiftedRun.{RunHoldsForSources};
 
 use crate::books::{SharedRows, SharedRun, givens_of, rows_of};
-use crate::course::Course;
+use crate::case_course::{CaseCourse, CourseOf};
 use crate::flows::{close_flows, open_flows};
-use crate::line::Bell;
-use crate::rounds::run_by_workers;
-use crate::run_flow::LockedRunFlow;
+use crate::run_flow::{LockedRunFlow, RunFlow};
 use campaign_core::{BareFlow, Cases, GivenFlow, TalliedFlow};
 use ccp_base::{Gate, NoMemory, Workers};
 use flow_core::{Case, Core};
 use scene_core::SharedScene;
 use shared_link::{Counts, SharedCase, SharedLink};
+use shared_rounds::{Bell, run_by_workers};
 use std::alloc::Global;
 use std::marker::Brand;
 use std::sync::Wait;
@@ -127,7 +127,7 @@ fn run<F: GivenFlow + Send, R: Threads + Wait + Sync, G: Gate + Sync>(
 
 /// A run before its first round.
 #[derive(Drop)]
-struct OpenRun<C: Course, F: GivenFlow> {
+struct OpenRun<C: CaseCourse, F: GivenFlow> {
     link: SharedLink,
     flows: Vec<LockedRunFlow<C, F>>,
     /// A bell for each worker.
@@ -136,7 +136,7 @@ struct OpenRun<C: Course, F: GivenFlow> {
 
 /// The run of these cases over their link for at most `most` rounds. Its parts have types that name it.
 fn run_course<
-    C: Course + Send + Sync,
+    C: CaseCourse + Send + Sync,
     F: GivenFlow + Send,
     R: Threads + Wait + Sync,
     G: Gate + Sync,
@@ -161,7 +161,7 @@ fn run_course<
 {
     let most = most_of(cases.as_slice(), most);
     let OpenRun { link, flows, bells } = open_run::<C, F>(alloc, link, cases, workers)?;
-    let end = run_by_workers(
+    let end = run_by_workers::<CourseOf<C>, RunFlow<C, F>, R, G>(
         rt,
         alloc,
         link,
@@ -177,7 +177,7 @@ fn run_course<
 
 // A function of its own: each of its exits drops little, and its caller has one exit for all of them.
 /// The run before its first round.
-fn open_run<C: Course, F: GivenFlow>(
+fn open_run<C: CaseCourse, F: GivenFlow>(
     alloc: Global,
     link: SharedCase,
     cases: Cases,
@@ -187,7 +187,7 @@ fn open_run<C: Course, F: GivenFlow>(
     requires cases { cases ≡ C.cases }
     requires few { length C.cases ≤ most_flows }
     requires within { IsWithin C.link }
-    ensures stands { IfOk result (λ run. StandsAfter C.link C.cases 0 run.link) }
+    ensures stands { IfOk result (λ run. StandsAfter C.link (asks_in C.link C.cases) 0 run.link) }
     ensures flows { IfOk result (λ run. length run.flows.items ≡ length C.cases) }
     ensures bells { IfOk result (λ run. length run.bells.items ≡ workers.count) }
 {

@@ -6,4 +6,4 @@ pub new-requires : goal.new-requires
 new-requires g c =
     let run = c.args.self.now in
     let well : IsOk run.heard = search rules in
-    kept-asks g.F.GivenFlow.at g.C.Course.link g.C.Course.cases run.round run.number run.flow.flow run.flow.tally c.ask_of.result (run.stands well) c.ask_of.ensures
+    kept-asks g.F.GivenFlow.at g.C.CaseCourse.link g.C.CaseCourse.cases run.round run.number run.flow.flow run.flow.tally c.ask_of.result (run.stands well) c.ask_of.ensures

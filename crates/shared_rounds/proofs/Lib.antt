@@ -1,0 +1,4 @@
+-- The lemmas of shared_rounds, a file a topic.
+pub mod RoundsLemmas
+pub mod OrderLemmas
+pub mod KnownLemmas
