@@ -1,5 +1,5 @@
 //! The run of a scenario's cases over one link.
-ghost use Rattle.std.specs.Prelude.{◌≡◌, ◌≤◌, length, map, IfOk};
+ghost use Rattle.std.specs.Prelude.{◌≡◌, ◌≤◌, max, min, length, map, IfOk};
 ghost use Rattle.ccp_base.specs.Limits.{most_flows, most_rounds};
 ghost use Rattle.flow_core.specs.Readings.{over_codes};
 ghost use Rattle.scene_core.specs.CasePlans.{plan_of, AreFlowsFrom, flow_link_of, link_at_once};
@@ -189,20 +189,29 @@ fn open_run<C: CaseCourse, F: GivenFlow>(
     requires within { IsWithin C.link }
     ensures stands { IfOk result (λ run. StandsAfter C.link (asks_in C.link C.cases) 0 run.link) }
     ensures flows { IfOk result (λ run. length run.flows.items ≡ length C.cases) }
-    ensures bells { IfOk result (λ run. length run.bells.items ≡ workers.count) }
+    ensures bells { IfOk result (λ run. length run.bells.items
+        ≡ max (min workers.count (length run.flows.items)) 1) }
 {
     let link = SharedLink::new(alloc, link)?;
     let flows = open_flows::<C, F>(alloc, cases)?;
-    let bells = make_bells(alloc, workers)?;
+    let bells = make_bells(alloc, workers_of(workers, flows.len()))?;
     Ok(OpenRun { link, flows, bells })
 }
 
+/// How many of the workers a run of so many flows has. Those from the number of flows on would have no flow, and each
+/// would still cost some time in every round. A run without flows has one worker.
+fn workers_of(workers: Workers, flows: usize) -> usize
+    ensures { result ≡ max (min workers.count flows) 1 }
+{
+    (workers.count() as usize).min(flows).max(1)
+}
+
 /// A bell for each worker of a run.
-fn make_bells(alloc: Global, workers: Workers) -> Result<Vec<Bell>, NoMemory>
-    ensures { IfOk result (λ bells. length bells.items ≡ workers.count) }
+fn make_bells(alloc: Global, workers: usize) -> Result<Vec<Bell>, NoMemory>
+    ensures { IfOk result (λ bells. length bells.items ≡ workers) }
 {
     let mut bells = Vec::new(alloc);
-    for _worker in 0..workers.count() {
+    for _worker in 0..workers {
         bells.push(Bell::new(Parker::new()))?;
     }
     Ok(bells)

@@ -22,11 +22,10 @@ run_by_workers-requires-clause-begins g c κs held =
     let opened = c.in_ok-link.ensures in
     let flows = opened.flows in
     let bells = opened.bells in
-    let some : 1 ≤ c.args.workers.count = c.args.workers.some in
     let most_workers : c.args.workers.count ≤ 32 = c.args.workers.most in
     let few = c.requires.few in
     record {
-      has_workers = omega (arith, bells_are, bells, some);
+      has_workers = omega (arith, bells_are, bells);
       few_workers = omega (arith, bells_are, bells, most_workers);
       all_flows = flows_are ∙ flows;
       few_flows = omega (arith, flows_are, flows, few);
