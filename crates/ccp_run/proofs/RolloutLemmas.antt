@@ -3,8 +3,8 @@ use Rattle.std.proofs.Common.{◌≡◌, List, [], ◌∷◌, map, ap, refl}
 use Rattle.std.specs.List.{All}
 use Rattle.std.proofs.lemmas.List.Elements.{All-map}
 use Rattle.scene_members.specs.declared.open_case.OpenCase.{OpenCase}
-use Rattle.live_install.specs.declared.letter.OpenLetter.{OpenLetter}
-use Rattle.live_install.specs.declared.book.OpenBook.{OpenBook}
+use Rattle.open_flow.specs.declared.letter.OpenLetter.{OpenLetter}
+use Rattle.open_flow.specs.declared.book.OpenBook.{OpenBook}
 use Rattle.live_install.specs.WholeBooks.{IsHistory, flow_of, flows_of, case_in, IsRightBook, IsWhole}
 
 pub flow_cases : (books : List OpenBook) → map (λ (flow : OpenCase × List OpenLetter). flow.0) (flows_of books) ≡ map case_in books

@@ -6,7 +6,7 @@ use Rattle.scene_members.specs.declared.open_case.OpenCase.{OpenCase}
 use Rattle.scene_members.specs.OpenCases.{open_plan_of, AreOpenFlowsFrom}
 use Rattle.scene_members.specs.Rollout.{OpenPlan}
 use Rattle.scenario_json.specs.Rollout.{rollout_of}
-use Rattle.live_install.specs.declared.letter.OpenLetter.{OpenLetter}
+use Rattle.open_flow.specs.declared.letter.OpenLetter.{OpenLetter}
 use Rattle.live_install.specs.RolloutText.{rollout_text}
 use Rattle.live_install.specs.WholeBooks.{IsHistory}
 use Rattle.run_ending.specs.declared.outcome.ModeOutput.{ModeOutput}

@@ -6,12 +6,12 @@ use Rattle.ccp_base.specs.declared.exchange.Notice.{Notice}
 use Rattle.ccp_base.specs.declared.place.Place.{Place}
 use Rattle.ccp_base.specs.Text.{◌⧺◌}
 use Rattle.flow_core.specs.World.{Failure}
-use Rattle.live_install.specs.declared.book.OpenBook.{OpenBook}
-use Rattle.live_install.specs.BuiltTexts.{EntryState}
-use Rattle.live_install.specs.Entries.{step_place}
-use Rattle.live_install.specs.OpenBooks.{failure_at, seen_of, seen_as}
-use Rattle.live_install.specs.OpenWorld.{OpenWorld, track_now}
-use Rattle.live_install.specs.OpenWords.{install_world}
+use Rattle.open_flow.specs.declared.book.OpenBook.{OpenBook}
+use Rattle.open_flow.specs.BuiltTexts.{EntryState}
+use Rattle.open_flow.specs.Entries.{step_place}
+use Rattle.open_flow.specs.OpenBooks.{failure_at, seen_of, seen_as}
+use Rattle.open_flow.specs.OpenWorld.{OpenWorld, track_now}
+use Rattle.open_flow.specs.OpenWords.{install_world}
 use Rattle.live_install.specs.RolloutText.{OpenAccount, account_of, account_text, end_of, fault_lines, open_part, rollout_text}
 use Rattle.report_lines.specs.FaultLine.{placed_line}
 use Rattle.live_install.specs.BookText.{account_in, book_text, books_text, end_in, failures_in, failure_if_placed}

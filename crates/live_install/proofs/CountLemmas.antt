@@ -1,8 +1,8 @@
 -- A word without its changes, or without its entries, is known by the counts of acknowledgements before its letters.
 use Rattle.std.proofs.Common.{◌≡◌, ℕ, ◌+◌, ◌-◌, ◌<◌, ◌≤◌, List, [], ◌∷◌, ◌++◌, replicate, refl, ap, sym, ◌∙◌, arith, add-one}
 use Rattle.std.specs.Bool.{⊤}
-use Rattle.live_install.specs.declared.letter.OpenLetter.{OpenLetter}
-use Rattle.live_install.specs.declared.letter.OpenLetter.TheVariants.{A, I, G}
+use Rattle.open_flow.specs.declared.letter.OpenLetter.{OpenLetter}
+use Rattle.open_flow.specs.declared.letter.OpenLetter.TheVariants.{A, I, G}
 use Rattle.live_install.specs.WordsShown.{without_changes, without_entries, AreAlike}
 
 -- how many letters are acknowledgements

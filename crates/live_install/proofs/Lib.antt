@@ -1,16 +1,7 @@
 -- The lemmas of live_install, a file a topic.
-pub mod EntryLemmas
-pub mod ListLemmas
+pub mod OptionLemmas
 pub mod NumberLemmas
-pub mod SeenLemmas
-pub mod NextLemmas
-pub mod LetterLemmas
-pub mod RunLemmas
-pub mod KeepsLemmas
-pub mod OpenLemmas
-pub mod OpeningLemmas
 pub mod BookLemmas
-pub mod TurnLemmas
 pub mod CountLemmas
 pub mod DigitLemmas
 pub mod WorldCountLemmas

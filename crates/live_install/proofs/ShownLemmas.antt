@@ -11,7 +11,7 @@ use Rattle.flow_core.specs.World.{Era, Failure}
 use Rattle.flow_core.specs.declared.book.EpochLine.{EpochLine}
 use Rattle.flow_core.specs.Books.{epoch_line}
 use Rattle.scene_members.specs.declared.open_case.OpenCase.{OpenCase}
-use Rattle.live_install.specs.OpenWorld.{Installed, OpenWorld, eras_of}
+use Rattle.open_flow.specs.OpenWorld.{Installed, OpenWorld, eras_of}
 use Rattle.live_install.specs.RolloutText.{OpenAccount, account_of, flow_line, entry_line, entry_lines, refused_head, change_line, change_lines, fault_lines, shown_lines, last_line, open_part}
 use Rattle.live_install.proofs.DigitLemmas.{same-front}
 use Rattle.live_install.proofs.WorldCountLemmas.{starts, starts_of}

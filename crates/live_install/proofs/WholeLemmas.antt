@@ -2,11 +2,11 @@
 use Rattle.std.specs.Prelude.{◌≡◌, true, List}
 use Rattle.std.proofs.Common.{sym, subst}
 use Rattle.scene_members.specs.declared.open_case.OpenCase.{OpenCase}
-use Rattle.live_install.specs.declared.book.OpenBook.{OpenBook}
-use Rattle.live_install.specs.declared.letter.OpenLetter.{OpenLetter}
-use Rattle.live_install.specs.OpenWords.{install_world, legal, is_complete}
-use Rattle.live_install.specs.OpenBooks.{IsOpenBookOf}
-use Rattle.live_install.specs.OpenCells.{OpenState, world_at, IsComplete}
+use Rattle.open_flow.specs.declared.book.OpenBook.{OpenBook}
+use Rattle.open_flow.specs.declared.letter.OpenLetter.{OpenLetter}
+use Rattle.open_flow.specs.OpenWords.{install_world, legal, is_complete}
+use Rattle.open_flow.specs.OpenBooks.{IsOpenBookOf}
+use Rattle.open_flow.specs.OpenCells.{OpenState, world_at, IsComplete}
 use Rattle.live_install.specs.WholeBooks.{flow_of, IsWhole}
 
 pub whole : (cell : OpenState) (book : OpenBook) → book.case ≡ cell.case → book.word ≡ cell.word → IsComplete cell

@@ -3,9 +3,9 @@ use Rattle.std.specs.Prelude.{◌≡◌, ℕ, ◌+◌, ◌<◌, ◌≤◌, ◌^�
 use Rattle.std.proofs.Common.{ap, sym, ◌∙◌, subst, arith}
 use Rattle.std.proofs.lemmas.List.{append_cancel_left}
 use Rattle.scene_members.specs.declared.open_case.OpenCase.{OpenCase}
-use Rattle.live_install.specs.declared.letter.OpenLetter.{OpenLetter}
-use Rattle.live_install.specs.OpenWorld.{Installed}
-use Rattle.live_install.specs.OpenWords.{install_world}
+use Rattle.open_flow.specs.declared.letter.OpenLetter.{OpenLetter}
+use Rattle.open_flow.specs.OpenWorld.{Installed}
+use Rattle.open_flow.specs.OpenWords.{install_world}
 use Rattle.live_install.specs.RolloutText.{open_part}
 use Rattle.live_install.specs.WholeBooks.{IsHistory}
 use Rattle.live_install.specs.WordsShown.{AreAlike, AreAllAlike, AreHistories, text_for_words, TextShowsWords}

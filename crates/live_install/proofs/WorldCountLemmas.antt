@@ -11,10 +11,10 @@ use Rattle.portus_core.specs.Programs.{Form}
 use Rattle.flow_core.specs.World.{Era}
 use Rattle.scene_members.specs.declared.open_case.OpenCase.{OpenCase}
 use Rattle.portus_build.specs.TextWalk.{program_of}
-use Rattle.live_install.specs.declared.letter.OpenLetter.{OpenLetter}
-use Rattle.live_install.specs.declared.letter.OpenLetter.TheVariants.{A, I, G}
-use Rattle.live_install.specs.OpenWorld.{Installed, Running, OpenWorld, opening, cwnd_of, run_in, world_with_entry, was_started, first_left, next_entry, eras_in, eras_of, with_change}
-use Rattle.live_install.specs.OpenWords.{next_ack, after_letter, world_from, install_world, is_legal, legal_from}
+use Rattle.open_flow.specs.declared.letter.OpenLetter.{OpenLetter}
+use Rattle.open_flow.specs.declared.letter.OpenLetter.TheVariants.{A, I, G}
+use Rattle.open_flow.specs.OpenWorld.{Installed, Running, OpenWorld, opening, cwnd_of, run_in, world_with_entry, was_started, first_left, next_entry, eras_in, eras_of, with_change}
+use Rattle.open_flow.specs.OpenWords.{next_ack, after_letter, world_from, install_world, is_legal, legal_from}
 use Rattle.live_install.specs.WholeBooks.{IsHistory}
 use Rattle.live_install.specs.WordsShown.{without_entries, AreAlike}
 use Rattle.live_install.proofs.CountLemmas.{acks_in, entry_counts, change_counts, alike-entries}

@@ -5,10 +5,10 @@ use Rattle.ccp_base.specs.declared.place.Place.{Place}
 use Rattle.ccp_base.specs.Text.{◌⧺◌}
 use Rattle.report_lines.specs.declared.end_line.End.{End}
 use Rattle.flow_core.specs.World.{Failure}
-use Rattle.live_install.specs.declared.book.OpenBook.{OpenBook}
-use Rattle.live_install.specs.BuiltTexts.{EntryState}
-use Rattle.live_install.specs.Entries.{installed_of, step_place}
-use Rattle.live_install.specs.OpenBooks.{failure_at}
+use Rattle.open_flow.specs.declared.book.OpenBook.{OpenBook}
+use Rattle.open_flow.specs.BuiltTexts.{EntryState}
+use Rattle.open_flow.specs.Entries.{installed_of, step_place}
+use Rattle.open_flow.specs.OpenBooks.{failure_at}
 use Rattle.live_install.specs.RolloutText.{OpenAccount, account_text}
 
 -- a fault, if its instruction has a place

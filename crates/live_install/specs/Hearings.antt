@@ -2,8 +2,8 @@
 use Rattle.std.specs.Prelude.{Bool, true, false, [], ◌∷◌, ◌++◌}
 use Rattle.worker_desk.specs.declared.event.Heard.{Heard}
 use Rattle.worker_desk.specs.declared.event.Heard.TheVariants.{Quiet, Ended}
-use Rattle.live_install.specs.declared.letter.OpenLetter.TheVariants.{A}
-use Rattle.live_install.specs.OpenCells.{OpenState, is_legal_at}
+use Rattle.open_flow.specs.declared.letter.OpenLetter.TheVariants.{A}
+use Rattle.open_flow.specs.OpenCells.{OpenState, is_legal_at}
 
 -- the flow with the next acknowledgement, by whether one is left; else the flow as it was. Its reports and faults wait
 -- for no agent

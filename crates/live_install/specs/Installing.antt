@@ -1,9 +1,9 @@
 -- What an installer makes of the flow whose lock it holds.
 use Rattle.std.specs.Prelude.{◌≡◌, ◌↔◌, ℕ, Bool, true, false, Option, Some, None, IfSome, ◌∷◌, [], ◌++◌, slice_get}
 use Rattle.scene_members.specs.declared.open_case.OpenCase.{OpenCase}
-use Rattle.live_install.specs.declared.entry.Entry.{Entry}
-use Rattle.live_install.specs.declared.letter.OpenLetter.TheVariants.{G}
-use Rattle.live_install.specs.OpenCells.{OpenState, IsNextEntry, with_entry, next_step}
+use Rattle.open_flow.specs.declared.entry.Entry.{Entry}
+use Rattle.open_flow.specs.declared.letter.OpenLetter.TheVariants.{G}
+use Rattle.open_flow.specs.OpenCells.{OpenState, IsNextEntry, with_entry, next_step}
 
 -- the entry that was built, if there is one, has the text of this step of the case
 abbrev pub IsTextOf : OpenCase → ℕ → Option Entry → Type 0

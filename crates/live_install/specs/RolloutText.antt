@@ -15,10 +15,10 @@ use Rattle.flow_core.specs.declared.book.EpochLine.{EpochLine}
 use Rattle.flow_core.specs.World.{Failure}
 use Rattle.flow_core.specs.Books.{epoch_line}
 use Rattle.scene_members.specs.declared.open_case.OpenCase.{OpenCase}
-use Rattle.live_install.specs.declared.letter.OpenLetter.{OpenLetter}
+use Rattle.open_flow.specs.declared.letter.OpenLetter.{OpenLetter}
 pub use Rattle.flow_core.specs.LiveText.{end_of, fault_lines}
-use Rattle.live_install.specs.OpenWorld.{Installed, OpenWorld, eras_of, track_now}
-use Rattle.live_install.specs.OpenWords.{install_world}
+use Rattle.open_flow.specs.OpenWorld.{Installed, OpenWorld, eras_of, track_now}
+use Rattle.open_flow.specs.OpenWords.{install_world}
 
 -- ---- the account of a flow
 

@@ -1,11 +1,11 @@
 -- What a book of a rollout is: it has the state after a legal and complete word of its case.
 use Rattle.std.specs.Prelude.{◌≡◌, true, List, map}
 use Rattle.scene_members.specs.declared.open_case.OpenCase.{OpenCase}
-use Rattle.live_install.specs.declared.book.OpenBook.{OpenBook}
-use Rattle.live_install.specs.declared.letter.OpenLetter.{OpenLetter}
-use Rattle.live_install.specs.OpenWords.{install_world, legal, is_complete}
-use Rattle.live_install.specs.OpenBooks.{IsOpenBookOf}
-use Rattle.live_install.specs.OpenCells.{OpenState}
+use Rattle.open_flow.specs.declared.book.OpenBook.{OpenBook}
+use Rattle.open_flow.specs.declared.letter.OpenLetter.{OpenLetter}
+use Rattle.open_flow.specs.OpenWords.{install_world, legal, is_complete}
+use Rattle.open_flow.specs.OpenBooks.{IsOpenBookOf}
+use Rattle.open_flow.specs.OpenCells.{OpenState}
 
 -- the word is legal and complete for the case
 pub record IsHistory (flow : OpenCase × List OpenLetter) : Type 0 where
@@ -33,6 +33,3 @@ book_state book = record { case = book.case; entries = book.entries; word = book
 
 abbrev pub case_in : OpenBook → OpenCase
 case_in book = book.case
-
-abbrev pub case_of : OpenState → OpenCase
-case_of cell = cell.case

@@ -4,7 +4,7 @@ ghost use Rattle.std.specs.Prelude.{◌≡◌, map, IfOk, length};
 ghost use Rattle.worker_desk.specs.Works.{duty_of, duties};
 ghost use Rattle.flow_table.specs.Duties.{duty};
 
-use crate::cell::OpenCell;
+use crate::rollout_flow::RolloutFlow;
 use ccp_base::{Gate, NoMemory, Workers};
 use flow_table::{FlowTable, NoNudges, run_datapath_worker};
 use std::alloc::Global;
@@ -17,7 +17,7 @@ pub(crate) fn begin_all<'s, 'e, R: Threads + Wait + Sync, G: Gate + Sync>(
     scope: &'s Scope<'s, &'e ()>,
     rt: &'e R,
     alloc: Global,
-    table: &'e FlowTable<OpenCell>,
+    table: &'e FlowTable<RolloutFlow>,
     datapaths: Workers,
     gate: &'e G,
 ) -> Result<Vec<Work<DatapathShare>>, NoMemory>
@@ -36,7 +36,7 @@ pub(crate) fn begin_all<'s, 'e, R: Threads + Wait + Sync, G: Gate + Sync>(
 fn begin<'s, 'e, R: Threads + Wait + Sync, G: Gate + Sync>(
     scope: &'s Scope<'s, &'e ()>,
     rt: &'e R,
-    table: &'e FlowTable<OpenCell>,
+    table: &'e FlowTable<RolloutFlow>,
     datapaths: Workers,
     worker: u32,
     gate: &'e G,

@@ -1,13 +1,13 @@
 //! The lines of a flow's entries and changes.
 
 ghost use Rattle.std.specs.Prelude.{◌≡◌, ◌++◌, OnOk, Err, map};
-ghost use Rattle.live_install.specs.Entries.{installed_of};
+ghost use Rattle.open_flow.specs.Entries.{installed_of};
 ghost use Rattle.live_install.specs.RolloutText.{change_line, change_lines, entry_line, entry_lines, installed_line};
 ghost use Rattle.live_install.specs.RolloutText.{refused_head};
 
-use crate::entry::Entry;
 use ccp_base::{Bytes, NoMemory};
 use flow_core::EpochLine;
+use open_flow::Entry;
 use portus_build::{BuildFault, put_refusal};
 use std::alloc::Global;
 

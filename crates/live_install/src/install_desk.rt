@@ -6,10 +6,10 @@ ghost use Rattle.worker_desk.specs.Logs.{KnownLog, Logs};
 ghost use Rattle.worker_desk.specs.declared.event.Event.TheVariants.{Passed, Locked, Unlocked, Built};
 ghost use Rattle.worker_desk.specs.declared.event.Event.TheVariants.{Installed, Changed};
 
-use crate::cell::OpenCell;
-use crate::entry::{Entry, entry_of};
+use crate::rollout_flow::RolloutFlow;
 use ccp_base::{Gate, Point};
 use flow_table::FlowTable;
+use open_flow::{Entry, entry_of};
 use scene_members::OpenCase;
 use std::alloc::Global;
 use std::sync::{MutexGuard, Wait};
@@ -37,20 +37,20 @@ pub(crate) struct BuiltText {
 pub(crate) struct InstallDesk<'a, R: Wait, G: Gate> {
     pub(crate) rt: &'a R,
     pub(crate) alloc: Global,
-    pub(crate) table: &'a FlowTable<OpenCell>,
+    pub(crate) table: &'a FlowTable<RolloutFlow>,
     pub(crate) gate: &'a G,
-    pub(crate) held: Option<MutexGuard<'a, OpenCell>>,
+    pub(crate) held: Option<MutexGuard<'a, RolloutFlow>>,
 }
 
 impl<'a, R: Wait, G: Gate> LockDesk for InstallDesk<'a, R, G> {
     ghost use Rattle.std.specs.Prelude.{◌≡◌, Some, None, length};
     ghost use Rattle.flow_table.specs.HeldFlows.{number_held, OfHeld};
 
-    type Guard = MutexGuard<'a, OpenCell>;
+    type Guard = MutexGuard<'a, RolloutFlow>;
 
     ghost log = { λ d. None };
 
-    ghost held = { λ d. number_held (λ cell. cell.case.flow) d.held };
+    ghost held = { λ d. number_held (λ flow. flow.cell.case.flow) d.held };
 
     ghost flows = { λ d. length d.table.now };
 
@@ -66,7 +66,7 @@ impl<'a, R: Wait, G: Gate> LockDesk for InstallDesk<'a, R, G> {
         self.held = Some(self.table.lock(self.rt, flow));
     }
 
-    fn unlock(&mut self, _flow: u32) -> MutexGuard<'a, OpenCell> {
+    fn unlock(&mut self, _flow: u32) -> MutexGuard<'a, RolloutFlow> {
         let Some(guard) = self.held.take() else {
             unreachable!()
         };
@@ -106,10 +106,10 @@ impl<'a, R: Wait, G: Gate> worker_desk::InstallDesk for InstallDesk<'a, R, G> {
     ghost step_of = { λ entry. entry.step };
 
     ghost HasInstalled = { λ old new entry is_next.
-        OfHeld (λ before after. HasInstalled before after entry is_next) old.held new.held };
+        OfHeld (λ before after. HasInstalled before.cell after.cell entry is_next) old.held new.held };
 
     ghost HasChanged = { λ old new changed.
-        OfHeld (λ before after. HasChanged before after changed) old.held new.held };
+        OfHeld (λ before after. HasChanged before.cell after.cell changed) old.held new.held };
 
     fn source(&self, flow: u32) -> TextSource<'a> {
         TextSource {
@@ -127,7 +127,7 @@ impl<'a, R: Wait, G: Gate> worker_desk::InstallDesk for InstallDesk<'a, R, G> {
         }
     }
 
-    #[tactic(auto, using(crate::proofs::EntryLemmas::some_itself))]
+    #[tactic(auto, using(crate::proofs::OptionLemmas::some_itself))]
     fn take_entry(&mut self, text: BuiltText) -> Option<Entry> {
         text.entry
     }
@@ -138,14 +138,14 @@ impl<'a, R: Wait, G: Gate> worker_desk::InstallDesk for InstallDesk<'a, R, G> {
         };
         let installed = guard.install(entry);
         self.held = Some(guard);
-        installed.is_ok()
+        installed
     }
 
     fn change(&mut self, _flow: u32) -> bool {
         let Some(mut guard) = self.held.take() else {
             unreachable!()
         };
-        let changed = guard.change().is_ok();
+        let changed = guard.change();
         self.held = Some(guard);
         changed
     }

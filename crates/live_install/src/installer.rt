@@ -2,8 +2,8 @@
 ghost use Rattle.std.specs.Prelude.{◌≡◌, ◌<◌, length};
 ghost use Rattle.live_install.specs.Crews.{install_duty};
 
-use crate::cell::OpenCell;
 use crate::install_desk::InstallDesk;
+use crate::rollout_flow::RolloutFlow;
 use ccp_base::Gate;
 use flow_table::{FlowTable, WorkerCounts};
 use std::alloc::Global;
@@ -14,7 +14,7 @@ use worker_desk::Equipped;
 pub(crate) fn run_installer<R: Wait, G: Gate>(
     rt: &R,
     alloc: Global,
-    table: &FlowTable<OpenCell>,
+    table: &FlowTable<RolloutFlow>,
     workers: WorkerCounts,
     agent: u32,
     gate: &G,

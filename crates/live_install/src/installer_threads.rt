@@ -4,8 +4,8 @@ ghost use Rattle.std.specs.Prelude.{◌≡◌, ◌<◌, map, IfOk, length};
 ghost use Rattle.worker_desk.specs.Works.{duty_of, duties};
 ghost use Rattle.live_install.specs.Crews.{install_duty};
 
-use crate::cell::OpenCell;
 use crate::installer::run_installer;
+use crate::rollout_flow::RolloutFlow;
 use ccp_base::{Gate, NoMemory};
 use flow_table::{FlowTable, WorkerCounts};
 use std::alloc::Global;
@@ -18,7 +18,7 @@ pub(crate) fn begin_all<'s, 'e, R: Threads + Wait + Sync, G: Gate + Sync>(
     scope: &'s Scope<'s, &'e ()>,
     rt: &'e R,
     alloc: Global,
-    table: &'e FlowTable<OpenCell>,
+    table: &'e FlowTable<RolloutFlow>,
     workers: WorkerCounts,
     gate: &'e G,
 ) -> Result<Vec<Work<InstallerShare>>, NoMemory>
@@ -38,7 +38,7 @@ fn begin<'s, 'e, R: Threads + Wait + Sync, G: Gate + Sync>(
     scope: &'s Scope<'s, &'e ()>,
     rt: &'e R,
     alloc: Global,
-    table: &'e FlowTable<OpenCell>,
+    table: &'e FlowTable<RolloutFlow>,
     workers: WorkerCounts,
     agent: u32,
     gate: &'e G,

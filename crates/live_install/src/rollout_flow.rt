@@ -1,49 +1,72 @@
 //! A flow of a rollout, as its table and its workers see it.
 
 ghost use Rattle.std.specs.Prelude.{◌≡◌, ◌↔◌, ◌<◌, true, false, IsTrue, IfOk, OnOk};
-ghost use Rattle.live_install.specs.OpenCells.{IsComplete};
+ghost use Rattle.open_flow.specs.OpenCells.{IsComplete};
+ghost use Rattle.live_install.specs.Installing.{HasInstalled, HasChanged};
 ghost use Rattle.live_install.specs.WholeBooks.{IsWhole, book_state};
 
-use crate::book::OpenBook;
-use crate::cell::OpenCell;
-use crate::turn::make_letter;
 use ccp_base::NoMemory;
 use flow_table::LockedFlow;
+use open_flow::{Entry, OpenBook, OpenCell, make_letter};
 use scene_members::OpenCase;
 use std::alloc::Global;
 use worker_desk::Heard;
 
-impl LockedFlow for OpenCell {
-    ghost use Rattle.std.specs.Prelude.{◌≡◌, false, []};
-    ghost use Rattle.live_install.specs.OpenWords.{is_complete};
-    ghost use Rattle.live_install.specs.OpenCells.{world_at, IsComplete};
-    ghost use Rattle.live_install.specs.NextLetter.{HasNext, letters_left};
+/// A flow of a rollout behind its lock.
+// the trait and the cell are of crates beside each other, so the trait is that of a type of this crate
+#[derive(Drop)]
+pub(crate) struct RolloutFlow {
+    pub(crate) cell: OpenCell,
+}
+
+impl RolloutFlow {
+    /// Installs an entry if it is the next one, and says whether it was.
+    pub(crate) fn install(&mut self, entry: Entry) -> bool
+        ensures { HasInstalled self.old.cell self.new.cell entry result }
+    {
+        self.cell.install(entry).is_ok()
+    }
+
+    /// Changes the flow to the next program if there is one, and says whether there was.
+    pub(crate) fn change(&mut self) -> bool
+        ensures { HasChanged self.old.cell self.new.cell result }
+    {
+        self.cell.change().is_ok()
+    }
+}
+
+impl LockedFlow for RolloutFlow {
+    ghost use Rattle.std.specs.Prelude.{◌≡◌, false};
+    ghost use Rattle.open_flow.specs.OpenWords.{is_complete};
+    ghost use Rattle.open_flow.specs.OpenCells.{world_at, IsComplete};
+    ghost use Rattle.open_flow.specs.NextLetter.{letters_left};
     ghost use Rattle.live_install.specs.Hearings.{hearing_at};
-    ghost use Rattle.live_install.specs.WholeBooks.{IsWhole, book_state};
+    ghost use Rattle.live_install.specs.WholeBooks.{IsWhole};
+    ghost use Rattle.live_install.specs.RolloutFlows.{HasNextLetter, case_of, flow_in, fresh_flow};
 
     type Case = OpenCase;
 
     type Book = OpenBook;
 
-    ghost case_of = { λ cell. cell.case };
+    ghost case_of = { λ flow. case_of flow };
 
     ghost number_of = { λ case. case.flow };
 
     ghost case_in = { λ book. book.case };
 
-    ghost fresh = { λ case. record { case = case; entries = []; word = [] } };
+    ghost fresh = { λ case. fresh_flow case };
 
-    ghost flow_in = { λ book. book_state book };
+    ghost flow_in = { λ book. flow_in book };
 
-    ghost HasHeard = { λ old new heard. (new, heard) ≡ hearing_at old };
+    ghost HasHeard = { λ old new heard. (new.cell, heard) ≡ hearing_at old.cell };
 
-    ghost IsDone = { λ cell. IsComplete cell };
+    ghost IsDone = { λ flow. IsComplete flow.cell };
 
-    ghost IsLeft = { λ cell. is_complete cell.case (world_at cell) ≡ false };
+    ghost IsLeft = { λ flow. is_complete flow.cell.case (world_at flow.cell) ≡ false };
 
-    ghost letters = { λ cell. letters_left cell };
+    ghost letters = { λ flow. letters_left flow.cell };
 
-    ghost HasNext = { λ old new. HasNext old new };
+    ghost HasNext = { λ old new. HasNextLetter old new };
 
     ghost IsWhole = { λ book. IsWhole book };
 
@@ -51,36 +74,37 @@ impl LockedFlow for OpenCell {
         case.copy(alloc)
     }
 
-    fn open(alloc: Global, case: OpenCase) -> Result<OpenCell, NoMemory> {
-        OpenCell::new(alloc, case)
+    fn open(alloc: Global, case: OpenCase) -> Result<RolloutFlow, NoMemory> {
+        let cell = OpenCell::new(alloc, case)?;
+        Ok(RolloutFlow { cell })
     }
 
     fn is_of(&self, case: &OpenCase) -> bool {
-        self.case().same(case)
+        self.cell.case().same(case)
     }
 
     fn number(&self) -> u32 {
-        self.case().flow
+        self.cell.case().flow
     }
 
     fn hear(&mut self) -> Heard {
         // A report or a fault of a rollout waits for no agent.
-        match OpenCell::hear(self) {
+        match self.cell.hear() {
             Ok(_) => Heard::Quiet,
             Err(_) => Heard::Ended,
         }
     }
 
     fn is_done(&self) -> bool {
-        self.is_complete()
+        self.cell.is_complete()
     }
 
     fn make_next(&mut self, alloc: Global) -> Result<(), NoMemory> {
-        make_letter(alloc, self)
+        make_letter(alloc, &mut self.cell)
     }
 
     fn finish(self) -> OpenBook {
-        whole_book(self)
+        whole_book(self.cell)
     }
 }
 

@@ -5,11 +5,11 @@ ghost use Rattle.ccp_base.specs.Limits.{most_flows};
 ghost use Rattle.scene_members.specs.OpenCases.{AreOpenFlowsFrom};
 ghost use Rattle.live_install.specs.WholeBooks.{IsWhole, case_in};
 
-use crate::OpenBooks;
 use crate::books::books;
 use crate::workers::run_workers;
 use ccp_base::{Gate, NoMemory, Workers};
 use flow_table::{FlowTable, WorkerCounts};
+use open_flow::OpenBooks;
 use scene_members::OpenCases;
 use std::alloc::Global;
 use std::sync::Wait;

@@ -2,18 +2,16 @@
 ghost use Rattle.std.specs.Prelude.{◌≡◌, ◌≤◌, ◌++◌, IfOk, OnOk, map};
 ghost use Rattle.std.specs.List.{All};
 ghost use Rattle.report_lines.specs.FaultLine.{placed_line};
-ghost use Rattle.live_install.specs.Entries.{installed_of, step_place};
+ghost use Rattle.open_flow.specs.Entries.{installed_of, step_place};
 ghost use Rattle.live_install.specs.RolloutText.{fault_lines, fields_at, fields_of, flow_line, last_fields, last_line};
 ghost use Rattle.live_install.specs.RolloutText.{rollout_text, shown_lines};
 ghost use Rattle.live_install.specs.BookText.{account_in, book_text, books_text, end_in, failures_in};
 ghost use Rattle.live_install.specs.WholeBooks.{IsRightBook, flows_of};
 
-use crate::OpenBooks;
-use crate::book::OpenBook;
-use crate::entry::Entry;
 use crate::entry_lines::{put_changes, put_entries};
 use ccp_base::{Bytes, NoMemory, Notice, Place, Report};
 use flow_core::EpochLine;
+use open_flow::{Entry, OpenBook, OpenBooks, built_at};
 use portus_core::Decl;
 use report_lines::{End, put_end, put_fault, put_flow_head, put_report};
 use std::alloc::Global;
@@ -86,10 +84,7 @@ fn put_notice(text: &mut Bytes, entries: &[Entry], notice: &Notice) -> Result<()
 fn place_at(entries: &[Entry], step: u32, index: u16) -> Option<Place>
     ensures { result ≡ step_place entries.now step index }
 {
-    let entry = entries.get(step as usize)?;
-    let Ok(built) = entry.answer() else {
-        return None;
-    };
+    let built = built_at(entries, step)?;
     let place = built.places.as_slice().get(usize::from(index))?;
     Some(*place)
 }

@@ -2,8 +2,8 @@
 ghost use Rattle.std.specs.Prelude.{IfOk, length};
 ghost use Rattle.live_install.specs.Crews.{HasWorked};
 
-use crate::cell::OpenCell;
 use crate::crew::Crew;
+use crate::rollout_flow::RolloutFlow;
 use crate::{datapath_threads, installer_threads};
 use ccp_base::{Gate, NoMemory};
 use flow_table::{FlowTable, WorkerCounts};
@@ -18,7 +18,7 @@ use worker_desk::end_all;
 pub(crate) fn run_workers<R: Threads + Wait + Sync, G: Gate + Sync>(
     rt: &R,
     alloc: Global,
-    table: &FlowTable<OpenCell>,
+    table: &FlowTable<RolloutFlow>,
     workers: WorkerCounts,
     gate: &G,
 ) -> Result<Crew, NoMemory>

@@ -1,5 +1,5 @@
 use Rattle.std.proofs.Common.{◌≡◌, ◌+◌, ◌++◌, length, map}
-use Rattle.live_install.specs.Entries.{installed_of}
+use Rattle.open_flow.specs.Entries.{installed_of}
 use Rattle.live_install.specs.RolloutText.{entry_lines}
 use Rattle.live_install.proofs.entry_lines.put_entries.Given as goal
 

@@ -1,6 +1,6 @@
 use Rattle.std.proofs.Common.{◌++◌, ℕ, List, ap, sym, ◌∙◌, append_assoc}
 use Rattle.ccp_base.specs.declared.exchange.Notice.{Notice}
-use Rattle.live_install.specs.Entries.{step_place}
+use Rattle.open_flow.specs.Entries.{step_place}
 use Rattle.live_install.specs.RolloutText.{fault_lines}
 use Rattle.report_lines.specs.FaultLine.{placed_line}
 use Rattle.live_install.specs.BookText.{failures_in}

@@ -1,5 +1,5 @@
 use Rattle.std.proofs.Common.{◌≡◌, ◌++◌, length, map}
-use Rattle.live_install.specs.Entries.{installed_of}
+use Rattle.open_flow.specs.Entries.{installed_of}
 use Rattle.live_install.specs.RolloutText.{shown_lines}
 use Rattle.live_install.proofs.text.put_reports.Given as goal
 

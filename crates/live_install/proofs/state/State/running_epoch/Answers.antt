@@ -1,8 +1,0 @@
-use Rattle.live_install.specs.States.{world_of}
-use Rattle.live_install.proofs.RunLemmas.{running-step}
-use Rattle.live_install.proofs.state.State.running_epoch.Goals as goal
-
-pub returns-clause-present : goal.returns-clause-present
-returns-clause-present c =
-    let s = c.args.self.now in
-    running-step s.entries.items s.running (world_of s).present c.requires.keeps.runs
