@@ -11,8 +11,7 @@ use Rattle.worker_desk.specs.declared.event.CaseEvent.TheVariants.{Passed, Ran}
 use Rattle.worker_desk.specs.ServingLaw.{is_of}
 use Rattle.worker_desk.specs.Cases.{cases_of_worker, run_events}
 use Rattle.worker_desk.specs.CasesLaw.{runs, times, is_rising, events_below, WorkerRunsOnce, WorkersRunOnce}
-use Rattle.worker_desk.proofs.ServingLawLemmas.{one, times-flows}
-use Rattle.worker_desk.proofs.ServingLawLemmas as serving
+use Rattle.worker_desk.proofs.ServingLawLemmas.{times-append, times-flows}
 
 -- ---- which cases are run
 
@@ -25,27 +24,11 @@ runs-append [] next = refl
 runs-append (Passed worker point case ∷ first) next = runs-append first next
 runs-append (Ran case ∷ first) next = ap (λ (rest : List ℕ). case ∷ rest) (runs-append first next)
 
-cond-one : (here : Bool) → cond here 1 0 ≡ one here
-cond-one true = refl
-cond-one false = refl
-
-times-row : (number : ℕ) (row : List ℕ) → times number row ≡ serving.times number row
-times-row number [] = refl
-times-row number (head ∷ rest) =
-    ap (λ (n : ℕ). n + times number rest) (cond-one (head == number))
-    ∙ ap (λ (n : ℕ). one (head == number) + n) (times-row number rest)
-
-times-append : (number : ℕ) (first next : List ℕ) → times number (first ++ next) ≡ times number first + times number next
-times-append number [] next = omega arith
-times-append number (head ∷ first) next = omega (arith, times-append number first next)
-
 once : (worker workers cases case : ℕ)
     → times case (runs (run_events worker (cases_of_worker worker workers cases))) ≡ cond (is_of worker workers cases case) 1 0
 once worker workers cases case =
     ap (times case) (runs-run worker (cases_of_worker worker workers cases))
-    ∙ times-row case (cases_of_worker worker workers cases)
     ∙ times-flows worker workers cases case
-    ∙ sym (cond-one (is_of worker workers cases case))
 
 -- ---- in which order
 

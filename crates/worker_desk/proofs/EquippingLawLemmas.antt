@@ -6,8 +6,9 @@ use Rattle.worker_desk.specs.declared.event.Event.{Event}
 use Rattle.worker_desk.specs.Serving.{flows_of_worker}
 use Rattle.worker_desk.specs.ServingLaw.{is_of}
 use Rattle.worker_desk.specs.Equipping.{StepOutcome, unbuilt, late, installed, changed, equipping, equipped, StepTask, tasks, tasks_at}
+use Rattle.worker_desk.specs.CasesLaw.{times}
 use Rattle.worker_desk.specs.EquippingLaw.{builds, times_built, never_falls, EquippingLaw}
-use Rattle.worker_desk.proofs.ServingLawLemmas.{one, most-one, times, times-flows, below-other}
+use Rattle.worker_desk.proofs.ServingLawLemmas.{one, most-one, times-flows, below-other}
 
 -- ---- the texts that are built are the tasks
 

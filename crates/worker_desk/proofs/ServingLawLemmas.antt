@@ -6,6 +6,7 @@ use Rattle.worker_desk.specs.declared.event.Heard.{Heard}
 use Rattle.worker_desk.specs.declared.event.Heard.TheVariants.{Quiet, Reported, Faulted, Ended}
 use Rattle.worker_desk.specs.declared.event.Event.{Event}
 use Rattle.worker_desk.specs.Serving.{turn, again, served, left, flows_of_worker}
+use Rattle.worker_desk.specs.CasesLaw.{times}
 use Rattle.worker_desk.specs.ServingLaw.{Ask, asks, answers_to_flow, has_ended, is_empty, ends_once, nudges_well, is_of, ServingLaw}
 
 -- ---- the asks of a row of flows
@@ -32,14 +33,9 @@ asks-served worker (flow ∷ row) (answer ∷ answers) =
 -- ---- how often a flow stands in a row
 
 abbrev pub one : Bool → ℕ
-one true = 1
-one false = 0
+one is = cond is 1 0
 
-abbrev pub times : ℕ → List ℕ → ℕ
-times flow [] = 0
-times flow (head ∷ row) = one (head == flow) + times flow row
-
-times-append : (flow : ℕ) (row more : List ℕ) → times flow (row ++ more) ≡ times flow row + times flow more
+pub times-append : (flow : ℕ) (row more : List ℕ) → times flow (row ++ more) ≡ times flow row + times flow more
 times-append flow [] more = omega arith
 times-append flow (head ∷ row) more = omega (arith, times-append flow row more)
 
