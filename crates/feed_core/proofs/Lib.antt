@@ -12,5 +12,5 @@ mod FrameEnds
 pub mod FrameLawLemmas
 mod RefusalLemmas
 mod RestLemmas
-mod StreamEnds
+pub mod StreamEnds
 mod TurnLemmas

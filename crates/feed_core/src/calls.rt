@@ -1,6 +1,6 @@
 //! The loop that reads frames and writes answers.
 
-ghost use Rattle.std.specs.Prelude.{◌≡◌, ◌+◌, ◌-◌, ◌≤◌, [], length};
+ghost use Rattle.std.specs.Prelude.{◌≡◌, ◌+◌, ◌-◌, ◌≤◌, [], None, length};
 ghost use Rattle.feed_core.specs.FeedBytes.{frames_from};
 ghost use Rattle.feed_core.specs.Answering.{after, answering, feeding};
 ghost use Rattle.feed_core.specs.FeedEnds.{stream, AllowsAnswered, IsFed, StaysFinished};
@@ -15,6 +15,8 @@ use crate::piece::Piece;
 use crate::rest::Rest;
 use crate::turn::{Turn, next_frame};
 use ccp_base::{Sink, Source};
+use ccp_messages::Message;
+use reply_frames::Version;
 use std::alloc::Global;
 
 /// The bytes of the longest input.
@@ -76,10 +78,44 @@ pub fn answer_from<A: Answerer, D: Duplex>(
         (D.write_faults duplex.old) (D.write_faults duplex.new))
         (D.is_finished duplex.new) answerer.new result }
 {
-    let mut place = eaten;
     let mut answer = None;
+    let end = answer_in_place(alloc, answerer, rest, eaten, limit, &mut answer, duplex);
+    drop(answer);
+    end
+}
+
+// A function of its own: none of its exits drops the place that answers are made in.
+/// As `answer_from`; the answers to acknowledgements are made in `answer`.
+fn answer_in_place<A: Answerer, D: Duplex>(
+    alloc: Global,
+    answerer: &mut A,
+    rest: &mut Rest,
+    eaten: usize,
+    limit: usize,
+    answer: &mut Option<(Message, Version)>,
+    duplex: &mut D,
+) -> FeedEnd
+    requires room { limit - eaten ≤ A.room answerer.old }
+    requires none { answer.old ≡ None }
+    requires within { eaten + length rest.old ≤ limit }
+    requires allowed { AllowsAnswered
+        (after rest.old (answering A.answer_of A.is_waiting limit eaten answerer.old))
+        D.remaining D.written D.is_finished D.Follows D.MayRead duplex.old }
+    ensures follows { D.Follows duplex.old duplex.new }
+    ensures reads { D.read_faults duplex.old ≤ D.read_faults duplex.new }
+    ensures writes { D.write_faults duplex.old ≤ D.write_faults duplex.new }
+    ensures kept { StaysFinished (D.is_finished duplex.old) (D.is_finished duplex.new) result }
+    ensures fed { IsFed (answering A.answer_of A.is_waiting limit eaten answerer.old) rest.old
+        (AnswerLacksAt A.answer_of A.Takes eaten (frames_from A.answer_of limit eaten answerer.old))
+        (stream (D.remaining duplex.old) (D.remaining duplex.new)
+        (D.read_faults duplex.old) (D.read_faults duplex.new))
+        (stream (D.written duplex.old) (D.written duplex.new)
+        (D.write_faults duplex.old) (D.write_faults duplex.new))
+        (D.is_finished duplex.new) answerer.new result }
+{
+    let mut place = eaten;
     loop {
-        match next_frame(alloc, answerer, rest.as_slice(), &mut answer, duplex) {
+        match next_frame(alloc, answerer, rest.as_slice(), answer, duplex) {
             Turn::Answered(used) => {
                 rest.drop_front(used);
                 place += used;

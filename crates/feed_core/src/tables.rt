@@ -214,9 +214,11 @@ impl Tables {
     {
         let at = program as usize;
         if at >= PROGRAMS {
+            drop(code);
             return refusal(version, n, Reason::ProgramAbove, program);
         }
         if program_at(self.programs.as_slice(), program).is_some() {
+            drop(code);
             return refusal(version, n, Reason::ProgramExists, program);
         }
         match verify(code) {

@@ -1,6 +1,6 @@
 use Rattle.std.proofs.Common.{◌≡◌, ◌+◌, ◌-◌, ◌≤◌, None, length}
 use Rattle.feed_core.specs.FeedTurns.{IsFeeding}
-use Rattle.feed_core.proofs.calls.answer_from.Given as goal
+use Rattle.feed_core.proofs.calls.answer_in_place.Given as goal
 
 abbrev pub invariant-loop-used : goal.invariant-loop-used
 invariant-loop-used g l = record {

@@ -4,7 +4,7 @@ use Rattle.feed_core.specs.FeedLast.{IsLast}
 use Rattle.feed_core.proofs.FeedSteps.{feeds-frame, feeds-part, feeds-still, feeds-bytes, feeds-piece}
 use Rattle.feed_core.proofs.FeedEnding.{all-answered, ends-last, ends-unread, ends-long, ends-bad, ends-unwritten, ends-wanting}
 use Rattle.feed_core.proofs.FeedBegins.{feeding-first}
-use Rattle.feed_core.proofs.calls.answer_from.Goals as goal
+use Rattle.feed_core.proofs.calls.answer_in_place.Goals as goal
 
 pub loop-used-init : goal.loop-used-init
 loop-used-init g c = record {
@@ -12,7 +12,7 @@ loop-used-init g c = record {
   reads = omega arith;
   writes = omega arith;
   kept = λ finished. finished;
-  none = refl;
+  none = c.requires.none;
   feeding = feeding-first _ (g.D.Duplex.remaining c.args.duplex.now) (g.D.Duplex.written c.args.duplex.now) (g.D.Duplex.is_finished c.args.duplex.now) c.requires.room c.requires.within;
 }
 
