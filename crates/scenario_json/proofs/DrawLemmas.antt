@@ -1,17 +1,23 @@
--- What the generator draws: its traces say their times, its names are names, one plan more is drawn, and all flows
--- start at once.
-use Rattle.std.proofs.Common.{◌≡◌, ℕ, zero, suc, ◌-◌, ◌<◌, ◌≤◌, ◌^◌, List, [], ◌∷◌, ◌++◌, Ok, Some, length, map, codes, refl, ap, ◌∙◌, arith}
+-- What the generator draws: its traces say their times, its names are names, one plan more is drawn, all flows start at
+-- once, and the scenario that is put together of them is the generated one.
+use Rattle.std.proofs.Common.{◌≡◌, ℕ, zero, suc, ◌-◌, ◌<◌, ◌≤◌, ◌^◌, List, [], ◌∷◌, ◌++◌, Result, Ok, Err, IfOk, Some, length, map, codes, refl, ap, ◌∙◌, arith}
 use Rattle.std.proofs.lemmas.Bool.{le-leb}
 use Rattle.std.proofs.lemmas.Fmt.{length-decimal-le}
 use Rattle.std.proofs.lemmas.List.{map_push}
 use Rattle.std.specs.Fmt.{decimal}
 use Rattle.ccp_base.specs.Limits.{most_flows}
 use Rattle.ccp_base.specs.Named.{as_name}
+use Rattle.ccp_base.specs.declared.outside.NoMemory.{NoMemory}
 use Rattle.ccp_base.specs.Text.{◌⧺◌}
 use Rattle.link_model.specs.TraceText.{trace_of}
-use Rattle.scenario_json.specs.Soak.{text_at, times_at, drawn_plan, drawn_plans}
+use Rattle.reg_compiler.specs.Sources.{sources_of}
+use Rattle.reg_compiler.specs.declared.built.Built.{Built}
+use Rattle.scenario_json.specs.Scene.{scene_with}
+use Rattle.scenario_json.specs.ScenePrograms.{built_ins}
+use Rattle.scenario_json.specs.Soak.{text_at, times_at, drawn_plan, drawn_plans, gen}
 use Rattle.scene_members.specs.declared.plan.Plan.{Plan}
-use Rattle.scene_core.specs.CasePlans.{at_once}
+use Rattle.scene_core.specs.CasePlans.{plan_of, at_once}
+use Rattle.scene_core.specs.declared.scene.Scenario.{Scenario}
 
 -- the texts of the generated traces say their times
 pub text_read : (choice : ℕ) → trace_of (text_at choice) ≡ Ok (times_at choice)
@@ -50,3 +56,12 @@ plans_at_once (suc left) done x is =
 -- the flows of the generated scenario start at once
 pub all_at_once : (number : ℕ) → map at_once (drawn_plans most_flows [] number) ≡ drawn_plans most_flows [] number
 all_at_once number = plans_at_once most_flows [] number refl
+
+-- the scenario that is put together of the built-in programs and the drawn plans
+pub generated : (result : Result Scenario NoMemory) (programs : List (ℕ × Built)) (plans : List Plan) (number : ℕ) → IfOk result (λ s. s.programs ≡ programs)
+    → IfOk result (λ s. map plan_of s.cases ≡ map at_once plans) → sources_of programs ≡ built_ins → plans ≡ drawn_plans most_flows [] number
+    → IfOk result (λ s. scene_with (sources_of s.programs) (map plan_of s.cases) ≡ gen number)
+generated (Ok s) programs plans number same put forms drawn =
+    ap (λ ps. scene_with (sources_of ps) (map plan_of s.cases)) same ∙ ap (λ fs. scene_with fs (map plan_of s.cases)) forms
+    ∙ ap (scene_with built_ins) (put ∙ ap (map at_once) drawn ∙ all_at_once number)
+generated (Err e) programs plans number same put forms drawn = tt

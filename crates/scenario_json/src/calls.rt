@@ -41,7 +41,6 @@ use std::alloc::Global;
 /// Reads a scenario: a JSON object with its programs, traces and cases. When a flow starts is no part of the answer. The
 /// case of a flow whose agent is outside has Reno and its built-in programs, since a case has an agent; the flow never
 /// asks it. The refusals are those of `SceneFault`, the first one in the order of the scenario's parts.
-#[tactic(auto, using(portus_build::proofs::WalkLemmas::walks_exact))]
 pub fn scenario(alloc: Global, text: &[u8], mode: SceneMode) -> Result<Scenario, SceneFault>
     // The result of each program's text, a program or its first refusal, is what the walks over it find.
     ensures readable { WalksAreExact }
@@ -76,7 +75,6 @@ pub fn scenario(alloc: Global, text: &[u8], mode: SceneMode) -> Result<Scenario,
 }
 
 /// Generates the scenario of a number: 64 cases of the built-in programs, by draws from the number.
-#[tactic(auto, using(crate::proofs::DrawLemmas::all_at_once))]
 pub fn soak(alloc: Global, number: u32) -> Result<Scenario, NoMemory>
     ensures found { IfOk result (λ s.
         scene_with (sources_of s.programs) (map plan_of s.cases) ≡ gen number) }
@@ -128,7 +126,6 @@ fn shared_parts(alloc: Global, whole: &Value) -> Result<(ParsedScene, Shares), S
 /// Reads the scenario of flows that share one link: that of a live run with the member `shared`, in which each case may
 /// say when its flow starts. The link has one flow for each case, in order. The refusals of a live run come first, then
 /// those of `shared`.
-#[tactic(auto, using(crate::proofs::SceneLemmas::links_at_once))]
 pub fn shared_scene(alloc: Global, text: &[u8]) -> Result<SharedScene, SceneFault>
     // The answer is the scene of the text with its link, and each refusal the text's first one.
     ensures found { IfOk result (λ s. shared_scene_of text.now

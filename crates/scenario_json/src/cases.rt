@@ -21,7 +21,6 @@ use scene_members::{Plan, Programs};
 use std::alloc::Global;
 
 /// The program of this number, as an agent's role has it.
-#[tactic(auto, using(crate::proofs::CaseLemmas::looks_within))]
 fn coded_program(alloc: Global, programs: &[(u32, Built)], number: u32) -> Result<Coded, NoMemory>
     requires { number < length programs.now }
     ensures coded { IfOk result (λ c. coded_at programs.now number ≡ Some c) }
@@ -56,8 +55,13 @@ fn coded_programs(
     ensures one { IfOk result (λ both. AreOne both.0 both.1) }
 {
     let ss = coded_program(alloc, programs, numbers.ss)?;
-    let ca = coded_program(alloc, programs, numbers.ca)?;
-    Ok((ss, ca))
+    match coded_program(alloc, programs, numbers.ca) {
+        Ok(ca) => Ok((ss, ca)),
+        Err(error) => {
+            drop(ss);
+            Err(error)
+        }
+    }
 }
 
 /// The case of a flow whose programs these are.

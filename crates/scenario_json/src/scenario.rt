@@ -33,9 +33,11 @@ fn put_cases(
     ensures flows { OnOk result (AreFlowsFrom 0 cases.new) }
 {
     for plan in plans.into_vec() {
-        names.push(plan.name)?;
+        // The case goes first, so that no later exit drops its plan.
+        let name = plan.name;
         let flow = cases.len() as u32;
         cases.push(case(alloc, programs, flow, plan)?)?;
+        names.push(name)?;
     }
     Ok(())
 }

@@ -129,8 +129,9 @@ fn put_programs(
     for (name, value) in members.iter() {
         let NamedProgram { name, built } = named_program(alloc, name.as_str(), value)?;
         let number = builts.len() as u32;
-        names.push(name)?;
+        // The program goes first, so that no later exit drops it.
         builts.push((number, built))?;
+        names.push(name)?;
     }
     Ok(())
 }

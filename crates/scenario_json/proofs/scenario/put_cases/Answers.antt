@@ -22,16 +22,16 @@ loop-plan-preserved c =
     let named = l.names ++ plan.name ∷ [] in
     let done = l.cases ++ one ∷ [] in
     let is : left ≡ plan ∷ rest = c.in-Some.ensures.steps.0 in
-    let cases : c.push-in-loop-plan.new.self ≡ done = search rules in
-    let names : c.push.new.self ≡ named = search rules in
+    let cases : c.push.new.self ≡ done = search rules in
+    let names : c.push-in-loop-plan.new.self ≡ named = search rules in
     let flow : one.flow ≡ length l.cases = search rules in
     let said : plan_of one ≡ at_once plan = c.in_ok-case.ensures.plan in
     let coded : IsCoded programs one = search rules in
     let put = put_step programs c.args.plans l.cases left rest plan one l.names is l.invariant.0 flow said coded in
     let within : All (IsPlan (length programs)) (plan ∷ rest) = subst (λ (plans : List Plan). All (IsPlan (length programs)) plans) is l.invariant.1 in
-    let longer : length c.push-in-loop-plan.new.self ≡ length l.cases + 1 = ap length cases ∙ length-append l.cases (one ∷ []) in
+    let longer : length c.push.new.self ≡ length l.cases + 1 = ap length cases ∙ length-append l.cases (one ∷ []) in
     let shorter = ap length is in (
-      subst (λ (ns : List (List ℕ)). ArePut programs c.args.plans c.push-in-loop-plan.new.self rest ns) (sym names)
+      subst (λ (ns : List (List ℕ)). ArePut programs c.args.plans c.push.new.self rest ns) (sym names)
           (subst (λ (cs : List Case). ArePut programs c.args.plans cs rest named) (sym cases) put),
       All-tail (IsPlan (length programs)) plan rest within,
       omega (arith, longer, shorter, l.invariant.2),
