@@ -1,6 +1,6 @@
 -- What is kept after an acknowledgement is that of the state after it.
 use Rattle.std.specs.Prelude.{◌≡◌, ℕ, ◌+◌, List, [], ◌∷◌, ◌++◌, map, refl}
-use Rattle.std.proofs.Common.{add-zero, ap, sym, ◌∙◌, subst, arith, append-nil}
+use Rattle.std.proofs.Common.{add-zero, ap, sym, ◌∙◌, subst, append-nil}
 use Rattle.ccp_base.specs.declared.ack.Ack.{Ack}
 use Rattle.ccp_base.specs.declared.place.Place.{Place}
 use Rattle.link_model.specs.Standing.{LinkState, Stands}
