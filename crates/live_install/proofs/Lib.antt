@@ -1,5 +1,6 @@
 -- The lemmas of live_install, a file a topic.
 pub mod OptionLemmas
+pub mod DutyLemmas
 pub mod NumberLemmas
 pub mod BookLemmas
 pub mod CountLemmas

@@ -24,7 +24,13 @@ impl RolloutFlow {
     pub(crate) fn install(&mut self, entry: Entry) -> bool
         ensures { HasInstalled self.old.cell self.new.cell entry result }
     {
-        self.cell.install(entry).is_ok()
+        match self.cell.install(entry) {
+            Ok(()) => true,
+            Err(late) => {
+                drop(late);
+                false
+            }
+        }
     }
 
     /// Changes the flow to the next program if there is one, and says whether there was.

@@ -84,9 +84,10 @@ fn put_notice(text: &mut Bytes, entries: &[Entry], notice: &Notice) -> Result<()
 fn place_at(entries: &[Entry], step: u32, index: u16) -> Option<Place>
     ensures { result ≡ step_place entries.now step index }
 {
-    let built = built_at(entries, step)?;
-    let place = built.places.as_slice().get(usize::from(index))?;
-    Some(*place)
+    match built_at(entries, step) {
+        None => None,
+        Some(built) => built.places.as_slice().get(usize::from(index)).copied(),
+    }
 }
 
 fn put_reports(text: &mut Bytes, entries: &[Entry], reports: &[Report]) -> Result<(), NoMemory>
