@@ -16,15 +16,14 @@ use Rattle.reply_frames.specs.declared.decode.ReplyHead.{ReplyHead}
 use Rattle.reply_frames.specs.declared.fault.FrameFault.{FrameFault}
 use Rattle.reply_frames.specs.declared.fault.FrameFault.TheVariants as faults
 use Rattle.ccp_base.specs.FieldReg.{Pair}
-use Rattle.reply_frames.specs.Whole.{IsFrameFront, IsBadFrom, IsBadIn}
+use Rattle.reply_frames.specs.Whole.{IsFrameFront, IsBadIn}
 use Rattle.reply_frames.specs.FrameBytes.{spelled, outline_of}
 use Rattle.reply_frames.proofs.Codec.{AllBytes}
 use Rattle.reply_frames.proofs.CodecFrames.{frame-writes, frame-reads}
 use Rattle.reply_frames.proofs.FrameSizes.{frame-bytes}
-use Rattle.reply_frames.proofs.ExactFrames.{exact-frame}
 use Rattle.reply_frames.specs.Laws.{PrefixFree}
 use Rattle.reply_frames.proofs.NeededLaw.{all-bytes}
-use Rattle.reply_frames.proofs.FrameLaws.{frame_alone, cut_is, is_cut, bad_is}
+use Rattle.reply_frames.proofs.FrameLaws.{frame_alone, cut_is, is_cut, bad_in_at}
 use Rattle.ccp_messages.specs.declared.fault.DecodeFault.{DecodeFault}
 use Rattle.ccp_messages.specs.declared.fault.DecodeFault.TheVariants.{More, Bad, NoMemory}
 use Rattle.ccp_messages.specs.declared.message.Message.{Message}
@@ -104,10 +103,7 @@ bad-decoded bytes (Err (stops.Bad field' left)) field place e =
 pub decoded-bad : (bytes : List ℕ) (field : BadKind) (place : ℕ) → decoded_of bytes ≡ Err (Bad field place) → IsBadIn bytes field place
 decoded-bad bytes field place e =
     let b = bad-decoded bytes (found_from (length bytes) (frame_at bytes)) field place e in
-    let read : frame_at bytes ≡ Err (stops.Bad field b.0) = found-stops (length bytes) (frame_at bytes) (stops.Bad field b.0) b.1 in
-    let r = exact-frame.bad bytes field b.0 read in
-    let left : b.0 ≡ length bytes - place = omega (arith, b.2, r.left_is, ap length r.parts, length-append r.front (r.byte ∷ r.after)) in
-    (subst (IsBadFrom bytes) (sym b.2) (bad_is bytes field b.0 read), read ∙ ap (λ left. Err (stops.Bad field left)) left)
+    bad_in_at bytes field b.0 place (found-stops (length bytes) (frame_at bytes) (stops.Bad field b.0) b.1) b.2
 
 -- ---- what a call answers, if there was memory
 

@@ -58,7 +58,7 @@ is_cut-read bytes c (Err (stops.Bad field left)) e =
 pub is_cut : (bytes : List ℕ) → IsFrameFront bytes → frame_at bytes ≡ Err stops.Cut
 is_cut bytes c = is_cut-read bytes c (frame_at bytes) refl
 
-pub bad_is : (bytes : List ℕ) (field : BadKind) (left : ℕ) → frame_at bytes ≡ Err (stops.Bad field left) → IsBadFrom bytes (length bytes - left)
+bad_is : (bytes : List ℕ) (field : BadKind) (left : ℕ) → frame_at bytes ≡ Err (stops.Bad field left) → IsBadFrom bytes (length bytes - left)
 bad_is bytes field left e =
     let r = exact-frame.bad bytes field left e in
     let place : length bytes - left ≡ length r.front = omega (arith, ap length r.parts, length-append r.front (r.byte ∷ r.after), r.left_is) in
@@ -74,6 +74,13 @@ bad_is bytes field left e =
           let clash : ◌≡◌ {A = Read Frame} (Err (stops.Bad field (length (r.byte ∷ more)))) (Ok (frame.frame, [])) = sym again ∙ frame.whole in
           cc;
     }
+
+-- a bad byte that so many bytes are left from is at the place before which all others stand
+pub bad_in_at : (bytes : List ℕ) (field : BadKind) (left place : ℕ) → frame_at bytes ≡ Err (stops.Bad field left) → place ≡ length bytes - left → IsBadIn bytes field place
+bad_in_at bytes field left place read at =
+    let r = exact-frame.bad bytes field left read in
+    let rest : left ≡ length bytes - place = omega (arith, at, r.left_is, ap length r.parts, length-append r.front (r.byte ∷ r.after)) in
+    (subst (IsBadFrom bytes) (sym at) (bad_is bytes field left read), read ∙ ap (λ left. Err (stops.Bad field left)) rest)
 
 -- ---- what decoding answers
 
@@ -109,9 +116,7 @@ bad-from bytes (Err (stops.Bad field' left)) field place e =
 pub bad_in_is : (bytes : List ℕ) (field : BadKind) (place : ℕ) → decoded_of bytes ≡ Err (Bad field place) → IsBadIn bytes field place
 bad_in_is bytes field place e =
     let b = bad-from bytes (frame_at bytes) field place e in
-    let r = exact-frame.bad bytes field b.0 b.1 in
-    let left : b.0 ≡ length bytes - place = omega (arith, b.2, r.left_is, ap length r.parts, length-append r.front (r.byte ∷ r.after)) in
-    (subst (IsBadFrom bytes) (sym b.2) (bad_is bytes field b.0 b.1), b.1 ∙ ap (λ left. Err (stops.Bad field left)) left)
+    bad_in_at bytes field b.0 place b.1 b.2
 
 -- the frame that is read begins the bytes, and a frame that begins them is read
 pub read_begins : (bytes : List ℕ) (frame : Frame) (rest : List ℕ) → frame_at bytes ≡ Ok (frame, rest) → BeginsWithFrame bytes frame
