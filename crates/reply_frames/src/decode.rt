@@ -72,23 +72,24 @@ fn read_reply(bytes: &[u8], fields: &mut Fields) -> Result<ReplyHead, FrameFault
     ensures fault { IfErr result (λ fault. decoded_of bytes.now ≡ Err fault) }
     ensures unchanged { OnErr result (fields.new ≡ fields.old) }
 {
-    let (head, rest) = outline(bytes).map_err(|stop| frame_fault(bytes, stop))?;
+    let (head, rest) = match outline(bytes) {
+        Ok(front) => front,
+        Err(stop) => return Err(frame_fault(bytes, stop)),
+    };
     let count = head.counts.n1;
     match head.kind {
-        FrameKind::Update => {
-            let rest = update(rest, count, fields).map_err(|stop| frame_fault(bytes, stop))?;
-            Ok(reply_head_of(head, None, bytes, rest))
-        }
-        FrameKind::Change => {
-            let (program, rest) = change(rest, count, fields).map_err(|stop| frame_fault(
-                bytes, stop,
-            ))?;
-            Ok(reply_head_of(head, Some(program), bytes, rest))
-        }
-        kind => {
-            skip_body(rest, head).map_err(|stop| frame_fault(bytes, stop))?;
-            Err(FrameFault::Other(kind_number(kind)))
-        }
+        FrameKind::Update => match update(rest, count, fields) {
+            Ok(rest) => Ok(reply_head_of(head, None, bytes, rest)),
+            Err(stop) => Err(frame_fault(bytes, stop)),
+        },
+        FrameKind::Change => match change(rest, count, fields) {
+            Ok((program, rest)) => Ok(reply_head_of(head, Some(program), bytes, rest)),
+            Err(stop) => Err(frame_fault(bytes, stop)),
+        },
+        kind => match skip_body(rest, head) {
+            Ok(_) => Err(FrameFault::Other(kind_number(kind))),
+            Err(stop) => Err(frame_fault(bytes, stop)),
+        },
     }
 }
 
