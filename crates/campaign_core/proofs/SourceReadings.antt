@@ -33,6 +33,18 @@ some-placed place out = some-mapped (map_taken place) out
 pub none-placed : (place : Placing) (out : Option (Taken ℕ)) → is_none out ≡ is_none (option_map (map_taken place) out)
 none-placed place out = none-mapped (map_taken place) out
 
+-- what is told counts the same, whatever a fault's site is
+told-placed : (codes : Flow ℕ) (sources : Flow Place) (place : Placing) (told : Content ℕ)
+    → reports_told (told_as codes told) ≡ reports_told (told_as sources (map_content place told))
+told-placed codes sources place (of_report report) = refl
+told-placed codes sources place (of_failure failure) = refl
+
+pub reports-placed : (codes : Flow ℕ) (sources : Flow Place) (place : Placing) (tickets : List (Answered ℕ))
+    → report_count (map (ticket_line codes) tickets) ≡ report_count (map (ticket_line sources) (map (map_answered place) tickets))
+reports-placed codes sources place [] = refl
+reports-placed codes sources place (ticket ∷ rest) =
+    λ i. told-placed codes sources place ticket.told i + reports-placed codes sources place rest i
+
 -- a summary without what may have a fault notice
 abbrev without_notices : Summary → Summary
 without_notices s = record s { untold = None; out = None }
@@ -50,20 +62,11 @@ module _ (case : Case) (ss ca : Form) (ss_places ca_places : List Place)
   abbrev place : Placing
   place = place_in case ss_places ca_places
 
-  told-placed : (told : Content ℕ) → reports_told (told_as codes told) ≡ reports_told (told_as sources (map_content place told))
-  told-placed (of_report report) = refl
-  told-placed (of_failure failure) = refl
-
   -- the state over the sources is after a word, whoever gives the acknowledgements
   module _ (w : World ℕ) (giving : Giving Place) (word : List Letter)
       (same : map_world place w ≡ world_from sources giving (opening sources) word) where
     abbrev v : World Place
     v = world_from sources giving (opening sources) word
-
-    reports-placed : (tickets : List (Answered ℕ))
-        → report_count (map (ticket_line codes) tickets) ≡ report_count (map (ticket_line sources) (map (map_answered place) tickets))
-    reports-placed [] = refl
-    reports-placed (ticket ∷ rest) = λ i. told-placed ticket.told i + reports-placed rest i
 
     -- both summaries are the same, but for the index in a fault notice
     pub summary-placed : without_notices (summary codes w) ≡ without_notices (summary sources v)
@@ -73,7 +76,7 @@ module _ (case : Case) (ss ca : Form) (ss_places ca_places : List Place)
         let track = track-placed case ss ca ss_places ca_places ss_simulates ca_simulates w giving word same in
         (λ i. record (without_notices (summary codes w)) {
           answered = answered i;
-          told = reports-placed w.answered i;
+          told = reports-placed codes sources place w.answered i;
           faults = faults i;
         })
         ∙ (λ i. record (without_notices (summary sources (same i))) { track = track i })

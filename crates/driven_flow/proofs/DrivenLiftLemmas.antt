@@ -1,41 +1,33 @@
 -- A driven flow's state over the codes of its programs is the one over their sources.
-use Rattle.std.specs.Prelude.{◌≡◌, ◌==◌, ◌+◌, ◌&&◌, nat_lt, max, if◌then◌else◌, ℕ, Bool, true, false, Option, Some, None, option_map, List, [], ◌∷◌, ◌++◌, map, length, slice_get, refl}
+use Rattle.std.specs.Prelude.{◌≡◌, ◌==◌, ◌&&◌, nat_lt, max, if◌then◌else◌, ℕ, Bool, true, false, Option, Some, None, option_map, List, [], ◌∷◌, length, slice_get, refl}
 use Rattle.std.proofs.Common.{ap, sym, ◌∙◌, subst}
 use Rattle.std.proofs.lemmas.List.{map-append, length-map}
 use Rattle.ccp_base.specs.FieldReg.{Pair}
 use Rattle.ccp_base.specs.declared.ack.Ack.{Ack}
-use Rattle.ccp_base.specs.declared.arithmetic.FaultKind.{FaultKind}
 use Rattle.ccp_base.specs.declared.place.Place.{Place}
-use Rattle.ccp_base.specs.declared.exchange.Report.{Report}
-use Rattle.ccp_base.specs.RunningEpochs.{Reporter, reporter}
-use Rattle.portus_core.specs.declared.env.Env.{Env}
 use Rattle.portus_core.specs.ProgramForm.{form_of}
 use Rattle.portus_core.specs.Programs.{Form}
-use Rattle.portus_core.specs.Value.{Cause}
-use Rattle.portus_core.specs.OneAcknowledgement.{IsEnvOf}
-use Rattle.portus_core.proofs.EnvShapes.{IsEnvOf-declared_env, IsEnvOf-with_values}
-use Rattle.portus_core.specs.Epoch.{Outcome, Track, track_at, heard, with_values}
+use Rattle.portus_core.specs.Epoch.{Track}
 use Rattle.reg_code.specs.declared.code.Code.{Code}
 use Rattle.reg_compiler.specs.declared.built.Built.{Built}
 use Rattle.reg_compiler.specs.Simulation.{Simulates}
 use Rattle.link_model.specs.declared.link_case.LinkCase.{LinkCase}
-use Rattle.link_model.specs.Link.{ack_after}
 use Rattle.campaign_core.specs.CampaignRow.{sums_of, row_in, row_over}
 use Rattle.campaign_core.specs.CampaignWord.{first_letter, next_of}
-use Rattle.campaign_core.proofs.SourceReadings.{late-placed, some-placed, none-placed}
+use Rattle.campaign_core.proofs.SourceReadings.{late-placed, some-placed, none-placed, reports-placed}
 use Rattle.flow_core.specs.declared.letter.Letter.{Letter}
 use Rattle.flow_core.specs.declared.letter.Letter.TheVariants.{A, T, C}
-use Rattle.flow_core.specs.Books.{ticket_line}
-use Rattle.flow_core.specs.Lift.{Placing, map_failure, map_content, map_taken, map_answered, map_world}
-use Rattle.flow_core.specs.LiveText.{source_at, sources_of, report_count, reports_told}
+use Rattle.flow_core.specs.Lift.{Placing, map_failure, map_taken, map_answered, map_world}
+use Rattle.flow_core.specs.LiveText.{source_at, sources_of}
 use Rattle.flow_core.specs.Readings.{Flow}
 use Rattle.flow_core.specs.Summaries.{summary}
 use Rattle.flow_core.specs.Words.{Giving, from_link, with_given}
-use Rattle.flow_core.specs.World.{Failure, Content, of_report, of_failure, Era, Taken, Answered, World, time_of, track_in, track_of, era_of, failures_met, untold_after, with_met, has_room, after_ack, takeable, with_taken, told_as}
-use Rattle.flow_core.proofs.SimulatedEpochs.{met_placed, heard-simulated, after-simulated, IsEnvOf-after, declared-simulated}
-use Rattle.flow_core.proofs.PlacedParts.{take-lifts, can-placed, failures-placed, reports-placed, held-placed, untold-placed}
+use Rattle.flow_core.specs.World.{Era, Taken, World, time_of, track_of, era_of, takeable}
+use Rattle.flow_core.proofs.PlacedParts.{take-lifts, can-placed}
+use Rattle.flow_core.proofs.ReadingLifts as readings
+use Rattle.flow_core.proofs.ReadingLifts.{BothReadings, track-lifts, era-lifts, Shaped-era, given-lifts, Shaped-given, Shaped-taken, from_link-alike}
 use Rattle.driven_flow.specs.declared.case.DrivenCase.{DrivenCase}
-use Rattle.driven_flow.specs.Driven.{Given, Codes, codes_of, code_in, over_codes, over_sources, with_values_given, with_answer, answered_by, after_letter, world_from, peak_from, initial_window, begun, DrivenState, places_in, placed_in, ReadsAlike, ReadsAsSources}
+use Rattle.driven_flow.specs.Driven.{Given, Codes, unasked, codes_of, code_in, over_codes, over_sources, with_values_given, with_answer, answered_by, after_letter, world_from, peak_from, initial_window, begun, DrivenState, places_in, placed_in, ReadsAlike, ReadsAsSources}
 use Rattle.driven_flow.proofs.StateLemmas.{answered_now, shut}
 
 -- ---- programs by their numbers
@@ -65,96 +57,28 @@ module _ (programs : List (ℕ × Built)) (case : DrivenCase) where
   abbrev sources : Flow Place
   sources = over_sources (sources_of programs) case
 
-  abbrev form_at : ℕ → Form
-  form_at = source_at (sources_of programs)
-
   abbrev place : Placing
   place = placed_in programs
 
+  -- its programs by their numbers
+  abbrev both : BothReadings
+  both = record {
+    flow = case.flow;
+    agent = unasked;
+    acks = case.acks;
+    slots = case.slots;
+    form_at = source_at (sources_of programs);
+    code_at = code_in (codes_of programs);
+    places_at = places_in programs;
+    simulates_at = simulates-all programs;
+  }
+
   -- the env that the present epoch started with is one of its program
   abbrev Shaped : Era → Type 0
-  Shaped era = IsEnvOf (form_at era.program) era.first
-
-  -- the present epoch stands as it does over the source
-  track-lifts : (era : Era) → Shaped era → track_in codes era ≡ track_in sources era
-  track-lifts era shape =
-      after-simulated (form_at era.program) (code_in (codes_of programs) era.program) (places_in programs era.program) (simulates-all programs era.program)
-      era.events (track_at era.at era.first) shape
-
-  IsEnvOf-track : (era : Era) → Shaped era → IsEnvOf (form_at era.program) (track_in codes era).env
-  IsEnvOf-track era shape =
-      subst (λ (t : Track). IsEnvOf (form_at era.program) t.env) (sym (track-lifts era shape))
-      (IsEnvOf-after (form_at era.program) era.events (track_at era.at era.first) shape)
+  Shaped era = readings.Shaped both era
 
   window-lifts : (w : World ℕ) → Shaped w.present → (track_of codes w).env.cwnd ≡ (track_of sources (map_world place w)).env.cwnd
-  window-lifts w shape = ap (λ (t : Track). t.env.cwnd) (track-lifts w.present shape)
-
-  -- ---- a new epoch
-
-  abbrev era_at : ℕ → ℕ → Env → Era
-  era_at program at env = record { program = program; at = at; first = env; events = [] }
-
-  era-lifts : (program at : ℕ) (values : List Pair) (cwnd rate now : ℕ)
-      → era_of codes program at values cwnd rate now ≡ era_of sources program at values cwnd rate now
-  era-lifts program at values cwnd rate now =
-      ap (λ (env : Env). era_at program at (with_values values env))
-      (declared-simulated (form_at program) (code_in (codes_of programs) program) (places_in programs program) (simulates-all programs program) cwnd rate now)
-
-  Shaped-era : (program at : ℕ) (values : List Pair) (cwnd rate now : ℕ) → Shaped (era_of codes program at values cwnd rate now)
-  Shaped-era program at values cwnd rate now =
-      subst Shaped (sym (era-lifts program at values cwnd rate now))
-      (IsEnvOf-with_values (form_at program) values (sources.declared program cwnd rate now)
-      (IsEnvOf-declared_env (form_at program) cwnd rate now))
-
-  -- ---- A
-
-  with_met-lifts : (ack : Ack) (room : Bool) (track : Track) (outcome : Outcome (FaultKind × ℕ)) (env : Env) (w : World ℕ)
-      → map_world place (with_met codes ack room track (outcome, env) w)
-      ≡ with_met sources ack room track (met_placed (place w.present.program) (outcome, env)) (map_world place w)
-  with_met-lifts ack room track outcome env w =
-      let program = w.present.program in
-      let epoch : Reporter = reporter case.flow program (length w.past) in
-      let failures = failures_met program (length w.past) track.count ack (outcome, env) in
-      let placed = failures-placed place program (length w.past) track.count ack outcome env in
-      let untold = untold-placed place failures w.untold
-      ∙ ap (λ (fs : List (Failure Place)). untold_after fs (option_map (map_failure place) w.untold)) placed in
-      let faults = map-append (map_failure place) w.faults failures
-      ∙ ap (λ (fs : List (Failure Place)). map (map_failure place) w.faults ++ fs) placed in
-      let reports = reports-placed (place program) epoch track ack outcome env in
-      let holds = held-placed (place program) outcome in
-      λ i. record (with_met sources ack room track (met_placed (place program) (outcome, env)) (map_world place w)) {
-        waiting = w.waiting ++ reports i;
-        untold = untold i;
-        faults = faults i;
-        held = w.held + holds i;
-      }
-
-  ack-lifts : (ack : Ack) (w : World ℕ) → Shaped w.present → map_world place (after_ack codes ack w) ≡ after_ack sources ack (map_world place w)
-  ack-lifts ack w shape =
-      let program = w.present.program in
-      let track = track_of codes w in
-      let room = has_room codes w in
-      let met = heard (codes.reading program) track.is_stopped track.env ack room in
-      let heards = heard-simulated (form_at program) (code_in (codes_of programs) program) (places_in programs program) (simulates-all programs program)
-      track.is_stopped track.env ack room (IsEnvOf-track w.present shape) in
-      with_met-lifts ack room track met.0 met.1 w
-      ∙ ap (λ (m : Outcome Cause × Env). with_met sources ack room track m (map_world place w)) heards
-      ∙ ap (λ (t : Track). with_met sources ack room t (heard (sources.reading program) t.is_stopped t.env ack room) (map_world place w))
-      (track-lifts w.present shape)
-
-  heard-lifts : (ack : Option Ack) (w : World ℕ) → Shaped w.present
-      → map_world place (with_given codes ack w) ≡ with_given sources ack (map_world place w)
-  heard-lifts None w shape = refl
-  heard-lifts (Some ack) w shape = ack-lifts ack w shape
-
-  Shaped-heard : (ack : Option Ack) (w : World ℕ) → Shaped w.present → Shaped (with_given codes ack w).present
-  Shaped-heard None w shape = shape
-  Shaped-heard (Some ack) w shape = shape
-
-  Shaped-taken : (taken : Option (Content ℕ × (List Report × Option (Failure ℕ)))) (w : World ℕ)
-      → Shaped w.present → Shaped (with_taken taken w).present
-  Shaped-taken None w shape = shape
-  Shaped-taken (Some taken) w shape = shape
+  window-lifts w shape = ap (λ (t : Track). t.env.cwnd) (track-lifts both w.present shape)
 
   -- ---- C
 
@@ -164,9 +88,9 @@ module _ (programs : List (ℕ × Built)) (case : DrivenCase) where
   values-lifts None (pair ∷ rest) w shape = refl
   values-lifts (Some program) values w shape =
       let env = (track_of codes w).env in
-      let eras = era-lifts program (length w.acks) values env.cwnd env.rate (time_of w.acks)
+      let eras = era-lifts both program (length w.acks) values env.cwnd env.rate (time_of w.acks)
       ∙ ap (λ (t : Track). era_of sources program (length w.acks) values t.env.cwnd t.env.rate (time_of w.acks))
-      (track-lifts w.present shape) in
+      (track-lifts both w.present shape) in
       λ i. record (with_values_given sources (Some program) values (map_world place w)) { present = eras i }
 
   Shaped-values : (program : Option ℕ) (values : List Pair) (w : World ℕ) → Shaped w.present → Shaped (with_values_given codes program values w).present
@@ -174,7 +98,7 @@ module _ (programs : List (ℕ × Built)) (case : DrivenCase) where
   Shaped-values None (pair ∷ rest) w shape = shape
   Shaped-values (Some program) values w shape =
       let env = (track_of codes w).env in
-      Shaped-era program (length w.acks) values env.cwnd env.rate (time_of w.acks)
+      Shaped-era both program (length w.acks) values env.cwnd env.rate (time_of w.acks)
 
   shut-lifts : (ticket : Taken ℕ) (w : World ℕ)
       → map_world place (shut codes ticket w) ≡ shut sources (map_taken place ticket) (map_world place w)
@@ -212,21 +136,18 @@ module _ (programs : List (ℕ × Built)) (case : DrivenCase) where
     abbrev by_sources : Giving Place
     by_sources = from_link sources link
 
-    alike : (w : World ℕ) → Shaped w.present → by_codes w ≡ by_sources (map_world place w)
-    alike w shape = ap (λ (t : Track). Some (ack_after link w.windows t.env.cwnd)) (track-lifts w.present shape)
-
     letter-lifts : (letter : Letter) (w : World ℕ) → Shaped w.present
         → map_world place (after_letter codes by_codes answers w letter) ≡ after_letter sources by_sources answers (map_world place w) letter
     letter-lifts A w shape =
-        heard-lifts (by_codes w) w shape ∙ ap (λ (ack : Option Ack). with_given sources ack (map_world place w)) (alike w shape)
+        given-lifts both (by_codes w) w shape ∙ ap (λ (ack : Option Ack). with_given sources ack (map_world place w)) (from_link-alike both link w shape)
     letter-lifts T w shape = take-lifts place w
     letter-lifts C w shape =
         answered-lifts (slice_get answers (length w.answered)) w shape
         ∙ ap (λ (n : ℕ). answered_by sources (slice_get answers n) (map_world place w)) (sym (length-map w.answered (map_answered place)))
 
     Shaped-letter : (letter : Letter) (w : World ℕ) → Shaped w.present → Shaped (after_letter codes by_codes answers w letter).present
-    Shaped-letter A w shape = Shaped-heard (by_codes w) w shape
-    Shaped-letter T w shape = Shaped-taken (takeable w.waiting w.untold) w shape
+    Shaped-letter A w shape = Shaped-given both (by_codes w) w shape
+    Shaped-letter T w shape = Shaped-taken both (takeable w.waiting w.untold) w shape
     Shaped-letter C w shape = Shaped-answered (slice_get answers (length w.answered)) w shape
 
     world-lifts : (word : List Letter) (w : World ℕ) → Shaped w.present
@@ -259,32 +180,23 @@ module _ (programs : List (ℕ × Built)) (case : DrivenCase) where
       (none-placed place w.out i && can-placed place w.waiting w.untold i)
       (nat_lt (length w.acks) case.acks)
 
-  told-lifts : (told : Content ℕ) → reports_told (told_as codes told) ≡ reports_told (told_as sources (map_content place told))
-  told-lifts (of_report report) = refl
-  told-lifts (of_failure failure) = refl
-
-  count-lifts : (tickets : List (Answered ℕ))
-      → report_count (map (ticket_line codes) tickets) ≡ report_count (map (ticket_line sources) (map (map_answered place) tickets))
-  count-lifts [] = refl
-  count-lifts (ticket ∷ rest) = λ i. told-lifts ticket.told i + count-lifts rest i
-
   row-lifts : (w : World ℕ) (peak : ℕ) → Shaped w.present → row_over codes w peak ≡ row_over sources (map_world place w) peak
   row-lifts w peak shape =
       λ i. row_in (record (summary codes w) {
         untold = None;
         out = None;
-        track = track-lifts w.present shape i;
+        track = track-lifts both w.present shape i;
         answered = sym (length-map w.answered (map_answered place)) i;
-        told = count-lifts w.answered i;
+        told = reports-placed codes sources place w.answered i;
         faults = sym (length-map w.faults (map_failure place)) i;
       }) (sums_of w.acks) peak
 
   begun-lifts : (mss program : ℕ) (values : List Pair) → map_world place (begun codes mss program values) ≡ begun sources mss program values
   begun-lifts mss program values =
-      ap (λ (era : Era). record (begun sources mss program values) { present = era }) (era-lifts program 0 values (initial_window mss) 0 0)
+      ap (λ (era : Era). record (begun sources mss program values) { present = era }) (era-lifts both program 0 values (initial_window mss) 0 0)
 
   Shaped-begun : (mss program : ℕ) (values : List Pair) → Shaped (begun codes mss program values).present
-  Shaped-begun mss program values = Shaped-era program 0 values (initial_window mss) 0 0
+  Shaped-begun mss program values = Shaped-era both program 0 values (initial_window mss) 0 0
 
 -- ---- the law
 
@@ -309,7 +221,7 @@ reads-coded programs s =
       peak = peak;
       next = next-lifts programs case case.lag w ∙ ap (λ (v : World Place). next_of (over_sources (sources_of programs) case) case.lag v) state;
       track =
-          track-lifts programs case w.present end
+          track-lifts (both programs case) w.present end
           ∙ ap (λ (v : World Place). track_of (over_sources (sources_of programs) case) v) state;
       row =
           row-lifts programs case w (peak_from (over_codes (codes_of programs) case) (from_link (over_codes (codes_of programs) case) case.link) s.answers first s.word) end

@@ -31,6 +31,13 @@ answers-append (A ∷ rest) more = answers-append rest more
 answers-append (T ∷ rest) more = answers-append rest more
 answers-append (C ∷ rest) more = omega (arith, answers-append rest more)
 
+-- values answer no ticket
+pub values-tickets : {X : Type 0} → (flow : Flow X) (program : Option ℕ) (values : List Pair) (w : World X)
+    → (with_values_given flow program values w).answered ≡ w.answered
+values-tickets flow None [] w = refl
+values-tickets flow None (pair ∷ rest) w = refl
+values-tickets flow (Some program) values w = refl
+
 module _ {X : Type 0} (flow : Flow X) (giving : Giving X) where
   -- ---- one more letter
 
@@ -52,16 +59,11 @@ module _ {X : Type 0} (flow : Flow X) (giving : Giving X) where
   -- ---- one more answer
 
   -- how many tickets a letter answers
-  values-count : (program : Option ℕ) (values : List Pair) (w : World X) → (with_values_given flow program values w).answered ≡ w.answered
-  values-count None [] w = refl
-  values-count None (pair ∷ rest) w = refl
-  values-count (Some program) values w = refl
-
   given-count : (given : Given) (out : Option (Taken X)) (w : World X) → length (with_answer flow given out w).answered ≤ length w.answered + 1
   given-count given None w = omega arith
   given-count given (Some ticket) w =
       let line : Answered X = record { told = ticket.told; taken = ticket.taken; answered = length w.acks; reply = Nothing } in
-      let same = ap (λ (xs : List (Answered X)). length xs) (values-count given.program given.values (record w { out = None; answered = w.answered ++ line ∷ [] })) in
+      let same = ap (λ (xs : List (Answered X)). length xs) (values-tickets flow given.program given.values (record w { out = None; answered = w.answered ++ line ∷ [] })) in
       omega (arith, same, length-append w.answered (line ∷ []))
 
   answered-count : (given : Option Given) (w : World X) → length (answered_by flow given w).answered ≤ length w.answered + 1

@@ -1,18 +1,15 @@
 -- How far the reading of a scenario's text has come, and how it ends.
-use Rattle.std.proofs.Common.{rules, ◌≡◌, ◌⊎◌, inl, inr, ℕ, ◌+◌, ◌-◌, ◌<◌, ◌≤◌, Bool, true, false, Some, None, Result, Err, List, [], ◌++◌, length, take, drop, refl, ap, sym, subst, ◌∙◌, arith, append_assoc, append-nil, length-append, length-drop, take-append-drop}
+use Rattle.std.proofs.Common.{◌≡◌, ◌⊎◌, inl, inr, ℕ, ◌+◌, ◌-◌, ◌<◌, ◌≤◌, Bool, true, false, Some, None, Result, Err, List, [], ◌++◌, length, take, drop, refl, ap, sym, subst, ◌∙◌, arith, append_assoc, append-nil, length-append, length-drop, take-append-drop}
 use Rattle.std.proofs.lemmas.List.{length-take-le}
-use Rattle.ccp_base.specs.Outside.{Known, Rose, Takes, IsAtEnd, Takes-append}
+use Rattle.ccp_base.specs.Outside.{Known, Takes, IsAtEnd, Takes-append}
 use Rattle.ccp_base.specs.Limits.{most_frame_bytes, most_input_bytes}
 use Rattle.feed_core.specs.FeedEnds.{Stream, stream}
+use Rattle.feed_core.proofs.StreamEnds.{rose-late}
 use Rattle.driven_flow.specs.declared.front.FrontFault.{FrontFault}
 use Rattle.driven_flow.specs.declared.front.FrontFault.TheVariants.{TooLong, NoSeparator, ReadFailed, NoMemory}
 use Rattle.driven_flow.specs.Front.{with_front, divided_from, divided, front_in, IsOverlong, IsOpen, IsTooLong, IsFrontFault}
 use Rattle.driven_flow.specs.FrontLines.{IsWithinLine, GoesOn, CanEnd, IsUndecided, IsMoved, AddsBytes, IsMore, IsReading, IsTextRead}
 use Rattle.driven_flow.proofs.FrontLineLemmas.{Parted, front-twice, longer-text}
-
--- a count that rose late
-rose-late : (before middle now : ℕ) → before ≤ middle → Rose middle now → middle ≤ now → Rose before now
-rose-late before middle now first rose grown = search rules
 
 -- bytes that belong to the text are moved there
 pub reading-moves : (source source' : Known) (text rest text' rest' : List ℕ) (inside inside' : Bool) (count : ℕ)

@@ -1,5 +1,5 @@
 -- What is kept of a driven flow after each step is the summary after it.
-use Rattle.std.specs.Prelude.{◌≡◌, ℕ, ◌+◌, ◌-◌, ◌<◌, ◌≤◌, Bool, true, false, nat_lt, ◌&&◌, is_none, is_some, Option, Some, None, unwrap_or, List, [], ◌∷◌, ◌++◌, length, drop, refl}
+use Rattle.std.specs.Prelude.{◌≡◌, ℕ, ◌+◌, ◌-◌, ◌<◌, ◌≤◌, Bool, true, false, nat_lt, ◌&&◌, is_none, is_some, Option, Some, None, List, [], ◌∷◌, ◌++◌, length, drop, refl}
 use Rattle.driven_flow.specs.Driven.{Codes}
 use Rattle.std.proofs.Common.{add-zero, ap, sym, ◌∙◌, subst, arith, length-append, append-nil}
 use Rattle.std.specs.FinMap as map
@@ -21,18 +21,17 @@ use Rattle.reg_code.specs.declared.code.Code.{Code}
 use Rattle.reg_code.specs.CodeStart.{with_values, declared_kept}
 use Rattle.fold_machine.specs.MachineState.{MachineState, Fits}
 use Rattle.fold_machine.specs.Store.{slot_words}
-use Rattle.slot_pool.specs.Pool.{PoolState, words_at, free_of}
+use Rattle.slot_pool.specs.Pool.{PoolState, free_of}
 use Rattle.flow_core.specs.declared.bare.Issued.{Issued}
 use Rattle.flow_core.specs.Bares.{reports_in, step_machine, step_count}
 use Rattle.flow_core.specs.LiveText.{reports_told}
 use Rattle.flow_core.specs.MachineCalls.{heard_on}
 use Rattle.flow_lists.specs.Outbox.{OutboxState, Lies, next_told, notice_left, empty_outbox}
 use Rattle.flow_core.specs.Readings.{Flow, env_of, by_code}
-use Rattle.flow_lists.specs.ReportWords.{report_in}
 use Rattle.flow_core.specs.States.{some_count}
 use Rattle.flow_core.specs.Summaries.{Summary, summary, step_outcome, outcome_at, step_ack, next_telling, with_told, step_take, can_tell}
 use Rattle.flow_core.proofs.BareAnswerLemmas.{told-most}
-use Rattle.flow_core.proofs.BareLemmas.{reports-stored, length-in}
+use Rattle.flow_core.proofs.BareLemmas.{reports-stored, length-in, told-next}
 use Rattle.flow_core.proofs.ValueLemmas.{values-alike}
 use Rattle.driven_flow.specs.declared.case.DrivenCase.{DrivenCase}
 use Rattle.driven_flow.specs.declared.parts.Parts.{Parts}
@@ -40,19 +39,6 @@ use Rattle.driven_flow.specs.Driven.{over_codes, code_in, is_known, is_known_for
 use Rattle.driven_flow.specs.DrivenParts.{summary_by, InRange, IsParts, IsFirstMachine, step_note, Notes, step_values, step_closed, step_out, step_given, closed, Obeys}
 
 -- ---- a taking
-
--- the next report or notice, with what is left
-told-next : (pool : PoolState) (slots : List ℕ) (untold : Option Notice) (told : Told)
-    → Some told ≡ next_told (reports_in pool slots) untold
-    → next_telling (reports_in pool slots) untold ≡ Some (told, (drop 1 (reports_in pool slots), notice_left slots untold))
-told-next pool (slot ∷ slots) untold told is =
-    let one = report_in (unwrap_or (words_at pool slot) []) in
-    let same : told ≡ said.Report one = ap (λ (o : Option Told). unwrap_or o told) is in
-    λ i. Some (sym same i, (reports_in pool slots, untold))
-told-next pool [] (Some notice) told is =
-    let same : told ≡ said.Fault notice = ap (λ (o : Option Told). unwrap_or o told) is in
-    λ i. Some (sym same i, ([], None))
-told-next pool [] None told is = absurd (let wrong : Some told ≡ None = is in (cc))
 
 range-told : (case : DrivenCase) (waiting : List Report) (untold : Option Notice) (s : Summary) → s.waiting ≡ waiting → s.untold ≡ untold
     → s.out ≡ None → is_some (next_telling waiting untold) ≡ true → InRange case s → InRange case (with_told (next_telling waiting untold) s)

@@ -132,7 +132,7 @@ then-own (Some A) given flow on same = same (after_one given flow A)
 then-own (Some C) given flow on same = same (after_one given flow C)
 then-own (Some T) given flow on same = refl
 
-run-own : (most : ℕ) (given : Given) (flow : DrivenState) → (run_for most given flow).programs ≡ flow.programs
+pub run-own : (most : ℕ) (given : Given) (flow : DrivenState) → (run_for most given flow).programs ≡ flow.programs
 run-own zero given flow = refl
 run-own (suc most) given flow =
     then-own (next_of (flow_by flow) flow.case.lag (world_by flow)) given flow (run_for most given) (λ f. run-own most given f)

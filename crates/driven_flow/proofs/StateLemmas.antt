@@ -46,7 +46,7 @@ use Rattle.driven_flow.specs.Driven.{Given, DrivenState, left_of, begun, with_va
 use Rattle.driven_flow.specs.DrivenParts.{summary_by, IsParts, step_values, step_closed, step_out, step_given}
 use Rattle.driven_flow.specs.DrivenJournals.{with_some, journal_ack, journal_take, journal_answer, new_notice, Begins, Records}
 use Rattle.driven_flow.specs.DrivenStates.{answers_in, with_letter, with_given, line_out, line_begun, IsOpened, IsDriven}
-use Rattle.driven_flow.proofs.DrivenWordLemmas.{slice_get-last, answers-append, world-append, peak-append, world-more, peak-more}
+use Rattle.driven_flow.proofs.DrivenWordLemmas.{slice_get-last, answers-append, values-tickets, world-append, peak-append, world-more, peak-more}
 
 -- ---- the summary after an answer
 
@@ -110,16 +110,11 @@ module _ {X : Type 0} (flow : Flow X) where
   pub given-keeps : (given : Given) (w : World X) → KeepsHeard w (after_given flow given w)
   given-keeps given w = answered-keep given w.out w
 
-  values-tickets : (program : Option ℕ) (values : List Pair) (w : World X) → (with_values_given flow program values w).answered ≡ w.answered
-  values-tickets None [] w = refl
-  values-tickets None (pair ∷ rest) w = refl
-  values-tickets (Some program) values w = refl
-
   -- the ticket that is out is answered last
   pub given-tickets : (given : Given) (ticket : Taken X) (w : World X) → w.out ≡ Some ticket
       → (after_given flow given w).answered ≡ w.answered ++ answered_now ticket w ∷ []
   given-tickets given ticket w out =
-      ap (λ (o : Option (Taken X)). (with_answer flow given o w).answered) out ∙ values-tickets given.program given.values (shut ticket w)
+      ap (λ (o : Option (Taken X)). (with_answer flow given o w).answered) out ∙ values-tickets flow given.program given.values (shut ticket w)
 
   pub record TakeKeeps (before now : World X) : Type 0 where
     pub answered : now.answered ≡ before.answered

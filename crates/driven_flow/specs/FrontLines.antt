@@ -6,7 +6,7 @@ use Rattle.fold_run.specs.Separated.{is_separator}
 use Rattle.driven_flow.specs.declared.front.FrontFault.{FrontFault}
 use Rattle.driven_flow.specs.declared.front.FrontFault.TheVariants.{TooLong, NoSeparator, ReadFailed, NoMemory}
 use Rattle.driven_flow.specs.declared.front.Line.{Line}
-use Rattle.driven_flow.specs.declared.front.Line.TheVariants.{Separator, Whole, Part, Open}
+use Rattle.driven_flow.specs.declared.front.Line.TheVariants.{Separator, Text, Open}
 use Rattle.feed_core.specs.FeedEnds.{Stream}
 use Rattle.driven_flow.specs.Front.{with_front, divided_from, divided, IsDivided, IsFrontFault}
 
@@ -49,15 +49,13 @@ pub record IsUndecided (line bytes : List ℕ) : Type 0 where
 -- how bytes begin, after those of their line that came before
 abbrev pub IsNext : List ℕ → List ℕ → Line → Type 0
 IsNext line bytes (Separator count) = EndsText line bytes count
-IsNext line bytes (Whole count) = GoesOn line bytes count false
-IsNext line bytes (Part count) = GoesOn line bytes count true
+IsNext line bytes (Text count inside) = GoesOn line bytes count inside
 IsNext line bytes Open = IsUndecided line bytes
 
 -- the bytes that a beginning counts are some of those that are there; undecided bytes are few
 abbrev pub IsCounted : ℕ → Line → Type 0
 IsCounted length (Separator count) = (0 < count) × (count ≤ length)
-IsCounted length (Whole count) = (0 < count) × (count ≤ length)
-IsCounted length (Part count) = (0 < count) × (count ≤ length)
+IsCounted length (Text count inside) = (0 < count) × (count ≤ length)
 IsCounted length Open = length ≤ 4
 
 -- bytes are moved from the front of the rest to the end of the text, if the text isn't too long then

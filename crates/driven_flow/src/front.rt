@@ -48,10 +48,9 @@ pub enum FrontFault {
 enum Line {
     /// With the line `---` and its LF.
     Separator(usize),
-    /// With another line's end, or such a line, and its LF.
-    Whole(usize),
-    /// With a part of a line that isn't `---`, whatever follows; no LF is there.
-    Part(usize),
+    /// With another line's end, or such a line, and its LF (false), or with a part of a line that isn't `---`, whatever
+    /// follows, where no LF is there (true).
+    Text(usize, bool),
     /// With nothing, or with what may be the line `---`, as more bytes decide.
     Open,
 }
@@ -107,13 +106,9 @@ fn read_text<D: Duplex>(
                 rest.drop_front(count);
                 return Ok(text.len() + count);
             }
-            Line::Whole(count) => {
+            Line::Text(count, unended) => {
                 move_front(rest, text, count)?;
-                inside = false;
-            }
-            Line::Part(count) => {
-                move_front(rest, text, count)?;
-                inside = true;
+                inside = unended;
             }
             Line::Open => read_more(duplex, rest, text.len())?,
         }
@@ -131,7 +126,7 @@ fn next_line(bytes: &[u8], inside: bool) -> Line
     if !inside && is_separator(&bytes[..at]) {
         Line::Separator(at + 1)
     } else {
-        Line::Whole(at + 1)
+        Line::Text(at + 1, false)
     }
 }
 
@@ -144,7 +139,7 @@ fn next_part(bytes: &[u8], inside: bool) -> Line
     if bytes.is_empty() || (!inside && may_separate(bytes)) {
         Line::Open
     } else {
-        Line::Part(bytes.len())
+        Line::Text(bytes.len(), true)
     }
 }
 

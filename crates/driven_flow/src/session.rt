@@ -228,14 +228,20 @@ impl<'p> Session<'p> {
         if self.flow.is_some() {
             return Ok(());
         }
-        let Some(case) = self.left.pop_front() else {
-            return Ok(());
-        };
         let Some(program) = answer.program else {
             unreachable!()
         };
-        self.flow = Some(DrivenFlow::begin(alloc, case, self.programs, program, &answer.values)?);
-        Ok(())
+        let Some(case) = self.left.pop_front() else {
+            return Ok(());
+        };
+        match DrivenFlow::begin(alloc, case, self.programs, program, &answer.values) {
+            Ok(flow) => {
+                // No flow is there. Dropped in place, an Option of a flow would be proved here and not by its type.
+                drop(self.flow.replace(flow));
+                Ok(())
+            }
+            Err(error) => Err(error),
+        }
     }
 
     /// Continues the flow with this answer, to its next ticket or to its end.
@@ -261,6 +267,7 @@ impl<'p> Session<'p> {
         if ticket.is_some() {
             return Ok(ticket);
         }
+        drop(ticket);
         self.end_flow()?;
         Ok(self.create_next())
     }

@@ -5,27 +5,27 @@ use Rattle.driven_flow.specs.FrontLines.{IsUndecided, GoesOn, IsMore}
 use Rattle.driven_flow.proofs.FrontReading.{reading-moves, reading-stops, reading-open, reading-more, reading-fails, text-fails}
 use Rattle.driven_flow.proofs.front.read_text.Goals as goal
 
-pub returns-in_err-move_front-in-Whole-clause-read : goal.returns-in_err-move_front-in-Whole-clause-read
-returns-in_err-move_front-in-Whole-clause-read g c =
+pub returns-in_err-move_front-in-Text-clause-read : goal.returns-in_err-move_front-in-Text-clause-read
+returns-in_err-move_front-in-Text-clause-read g c =
     let so_far = c.loop-count.invariant in
     let rest : List ℕ = c.loop-count.rest in
     let returned = err_from_is_err_and c.from_residual.result c.from_residual.ensures.1 in
-    let goes : GoesOn so_far.reading.line rest c.in-Whole.count false = subst (λ (bytes : List ℕ). GoesOn so_far.reading.line bytes c.in-Whole.count false) c.as_slice.ensures.bytes (c.in-Whole.ensures.next so_far.reading.line so_far.reading.inside_is) in
-    let fits : c.in-Whole.count ≤ length rest = subst (λ (bytes : List ℕ). c.in-Whole.count ≤ length bytes) c.as_slice.ensures.bytes c.in-Whole.ensures.counted.1 in
+    let goes : GoesOn so_far.reading.line rest c.in-Text.count c.in-Text.unended = subst (λ (bytes : List ℕ). GoesOn so_far.reading.line bytes c.in-Text.count c.in-Text.unended) c.as_slice.ensures.bytes (c.in-Text.ensures.next so_far.reading.line so_far.reading.inside_is) in
+    let fits : c.in-Text.count ≤ length rest = subst (λ (bytes : List ℕ). c.in-Text.count ≤ length bytes) c.as_slice.ensures.bytes c.in-Text.ensures.counted.1 in
     let fails = reading-stops (g.D.Duplex.remaining c.args.duplex.now) (g.D.Duplex.remaining c.loop-count.duplex) (g.D.Duplex.read_faults c.args.duplex.now) (g.D.Duplex.read_faults c.loop-count.duplex)
-    c.loop-count.text rest c.move_front.new.text c.move_front.new.rest c.loop-count.inside false c.in-Whole.count so_far.reading goes fits so_far.within
+    c.loop-count.text rest c.move_front.new.text c.move_front.new.rest c.loop-count.inside c.in-Text.unended c.in-Text.count so_far.reading goes fits so_far.within
     c.as_slice.ensures.few
-    c.in_err-move_front-in-Whole.field-0.0 c.in_err-move_front-in-Whole.ensures.moved in
-    text-fails _ c.move_front.new.text c.move_front.new.rest c.from_residual.result returned.0 c.in_err-move_front-in-Whole.field-0.0 returned.1 returned.2 fails
+    c.in_err-move_front-in-Text.field-0.0 c.in_err-move_front-in-Text.ensures.moved in
+    text-fails _ c.move_front.new.text c.move_front.new.rest c.from_residual.result returned.0 c.in_err-move_front-in-Text.field-0.0 returned.1 returned.2 fails
 
-pub loop-count-preserved-in-Whole : goal.loop-count-preserved-in-Whole
-loop-count-preserved-in-Whole g c =
+pub loop-count-preserved-in-Text : goal.loop-count-preserved-in-Text
+loop-count-preserved-in-Text g c =
     let so_far = c.loop-count.invariant in
     let rest : List ℕ = c.loop-count.rest in
-    let goes : GoesOn so_far.reading.line rest c.in-Whole.count false = subst (λ (bytes : List ℕ). GoesOn so_far.reading.line bytes c.in-Whole.count false) c.as_slice.ensures.bytes (c.in-Whole.ensures.next so_far.reading.line so_far.reading.inside_is) in
-    let fits : c.in-Whole.count ≤ length rest = subst (λ (bytes : List ℕ). c.in-Whole.count ≤ length bytes) c.as_slice.ensures.bytes c.in-Whole.ensures.counted.1 in
-    let moved = c.in_ok-move_front-in-Whole.ensures.moved in
-    let count : length c.move_front.new.text ≡ length c.loop-count.text + c.in-Whole.count = omega (arith, ap length moved.0, length-append c.loop-count.text (take c.in-Whole.count rest), length-take-le c.in-Whole.count rest fits) in
+    let goes : GoesOn so_far.reading.line rest c.in-Text.count c.in-Text.unended = subst (λ (bytes : List ℕ). GoesOn so_far.reading.line bytes c.in-Text.count c.in-Text.unended) c.as_slice.ensures.bytes (c.in-Text.ensures.next so_far.reading.line so_far.reading.inside_is) in
+    let fits : c.in-Text.count ≤ length rest = subst (λ (bytes : List ℕ). c.in-Text.count ≤ length bytes) c.as_slice.ensures.bytes c.in-Text.ensures.counted.1 in
+    let moved = c.in_ok-move_front-in-Text.ensures.moved in
+    let count : length c.move_front.new.text ≡ length c.loop-count.text + c.in-Text.count = omega (arith, ap length moved.0, length-append c.loop-count.text (take c.in-Text.count rest), length-take-le c.in-Text.count rest fits) in
     record {
       follows = so_far.follows;
       written = so_far.written;
@@ -33,39 +33,7 @@ loop-count-preserved-in-Whole g c =
       finished = so_far.finished;
       reads = so_far.reads;
       reading = reading-moves (g.D.Duplex.remaining c.args.duplex.now) (g.D.Duplex.remaining c.loop-count.duplex) c.loop-count.text rest c.move_front.new.text c.move_front.new.rest
-          c.loop-count.inside false c.in-Whole.count so_far.reading goes moved.0 moved.1;
-      within = omega (arith, count, moved.2);
-    }
-
-pub returns-in_err-move_front-in-Part-clause-read : goal.returns-in_err-move_front-in-Part-clause-read
-returns-in_err-move_front-in-Part-clause-read g c =
-    let so_far = c.loop-count.invariant in
-    let rest : List ℕ = c.loop-count.rest in
-    let returned = err_from_is_err_and c.from_residual-in_err-move_front-in-Part.result c.from_residual-in_err-move_front-in-Part.ensures.1 in
-    let goes : GoesOn so_far.reading.line rest c.in-Part.count true = subst (λ (bytes : List ℕ). GoesOn so_far.reading.line bytes c.in-Part.count true) c.as_slice.ensures.bytes (c.in-Part.ensures.next so_far.reading.line so_far.reading.inside_is) in
-    let fits : c.in-Part.count ≤ length rest = subst (λ (bytes : List ℕ). c.in-Part.count ≤ length bytes) c.as_slice.ensures.bytes c.in-Part.ensures.counted.1 in
-    let fails = reading-stops (g.D.Duplex.remaining c.args.duplex.now) (g.D.Duplex.remaining c.loop-count.duplex) (g.D.Duplex.read_faults c.args.duplex.now) (g.D.Duplex.read_faults c.loop-count.duplex)
-    c.loop-count.text rest c.move_front-in-Part.new.text c.move_front-in-Part.new.rest c.loop-count.inside true c.in-Part.count so_far.reading goes fits so_far.within
-    c.as_slice.ensures.few
-    c.in_err-move_front-in-Part.field-0.0 c.in_err-move_front-in-Part.ensures.moved in
-    text-fails _ c.move_front-in-Part.new.text c.move_front-in-Part.new.rest c.from_residual-in_err-move_front-in-Part.result returned.0 c.in_err-move_front-in-Part.field-0.0 returned.1 returned.2 fails
-
-pub loop-count-preserved-in-Part : goal.loop-count-preserved-in-Part
-loop-count-preserved-in-Part g c =
-    let so_far = c.loop-count.invariant in
-    let rest : List ℕ = c.loop-count.rest in
-    let goes : GoesOn so_far.reading.line rest c.in-Part.count true = subst (λ (bytes : List ℕ). GoesOn so_far.reading.line bytes c.in-Part.count true) c.as_slice.ensures.bytes (c.in-Part.ensures.next so_far.reading.line so_far.reading.inside_is) in
-    let fits : c.in-Part.count ≤ length rest = subst (λ (bytes : List ℕ). c.in-Part.count ≤ length bytes) c.as_slice.ensures.bytes c.in-Part.ensures.counted.1 in
-    let moved = c.in_ok-move_front-in-Part.ensures.moved in
-    let count : length c.move_front-in-Part.new.text ≡ length c.loop-count.text + c.in-Part.count = omega (arith, ap length moved.0, length-append c.loop-count.text (take c.in-Part.count rest), length-take-le c.in-Part.count rest fits) in
-    record {
-      follows = so_far.follows;
-      written = so_far.written;
-      write_faults = so_far.write_faults;
-      finished = so_far.finished;
-      reads = so_far.reads;
-      reading = reading-moves (g.D.Duplex.remaining c.args.duplex.now) (g.D.Duplex.remaining c.loop-count.duplex) c.loop-count.text rest c.move_front-in-Part.new.text c.move_front-in-Part.new.rest
-          c.loop-count.inside true c.in-Part.count so_far.reading goes moved.0 moved.1;
+          c.loop-count.inside c.in-Text.unended c.in-Text.count so_far.reading goes moved.0 moved.1;
       within = omega (arith, count, moved.2);
     }
 
