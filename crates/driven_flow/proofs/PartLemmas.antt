@@ -10,7 +10,6 @@ use Rattle.ccp_base.specs.declared.arithmetic.FaultKind.{FaultKind}
 use Rattle.ccp_base.specs.declared.exchange.Notice.{Notice}
 use Rattle.ccp_base.specs.declared.exchange.Report.{Report}
 use Rattle.ccp_base.specs.declared.exchange.Told.{Told}
-use Rattle.ccp_base.specs.declared.exchange.Told.TheVariants as said
 use Rattle.ccp_base.specs.RunningEpochs.{reporter, opening_epoch, next_epoch, report_at, reported_epoch}
 use Rattle.ccp_base.specs.declared.running_epoch.RunningEpoch.{RunningEpoch}
 use Rattle.portus_core.specs.declared.env.Env.{Env}
