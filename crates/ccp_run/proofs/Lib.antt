@@ -22,7 +22,6 @@ pub mod LiveLemmas
 pub mod TimelineLemmas
 pub mod AuditLemmas
 mod AcksBackLemmas
-mod FeedLawLemmas
 mod AlikeLemmas
 pub mod PlannedLemmas
 mod RowLaw

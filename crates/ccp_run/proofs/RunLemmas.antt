@@ -1,5 +1,5 @@
 -- A run's promises, from its mode's outcome and from how it then ended.
-use Rattle.std.proofs.Common.{◌≡◌, ◌≢◌, ◌≤◌, ◌⊎◌, inl, inr, ◌∙◌, ℕ, zero, suc, ◌+◌, Bool, true, false, subst, Some, None, Result, Ok, Err, List, [], length, arith, ap, sym, refl, append-nil}
+use Rattle.std.proofs.Common.{◌≡◌, ◌≢◌, ◌≤◌, ◌⊎◌, inl, inr, ◌∙◌, ℕ, zero, suc, ◌+◌, Bool, true, false, subst, Result, Ok, Err, List, [], length, arith, ap, sym, refl, append-nil}
 use Rattle.ccp_base.specs.Outside.{Known, Rose, Takes, TakesWithin, Appends, no_memory}
 use Rattle.feed_core.specs.FeedEnds.{AreHandedOn}
 use Rattle.run_ending.specs.declared.outcome.ModeOutput.{ModeOutput}
@@ -18,18 +18,11 @@ use Rattle.ccp_run.specs.Attempts.{IsAttempt, MakesOutput, RefusesInput, Refuses
 use Rattle.ccp_run.specs.DriveTexts.{IsStreamAttempt, RefusesStream}
 use Rattle.ccp_run.specs.Modes.{Task, limit_in, limit_of, is_read, is_stream, is_answered, answers_before}
 use Rattle.ccp_run.specs.Run.{EndsWith, IsReadFailed, IsRun, WritesFront, WritesAnyFront, WritesAnswers, WritesSomeAnswers}
+use Rattle.ccp_run.proofs.DriveFrames.{appends-nothing, takes-nothing}
 use Rattle.ccp_run.proofs.WorkerModes.{is_mode}
 
-appends_nothing : (old new : Known) → new ≡ old → Appends old new []
-appends_nothing None new same = same
-appends_nothing (Some written) new same = same ∙ ap Some (sym (append-nil written))
-
-takes_nothing : (old new : Known) → new ≡ old → Takes old new []
-takes_nothing old None same = sym same
-takes_nothing old (Some left) same = sym same
-
 pub untouched_within : (limit : ℕ) (old new : Known) → new ≡ old → TakesWithin limit old new
-untouched_within limit old new same = record { taken = []; takes = takes_nothing old new same; within = omega arith }
+untouched_within limit old new same = record { taken = []; takes = takes-nothing old new same; within = omega arith }
 
 pub one_more : (limit : ℕ) (old new : Known) → TakesWithin limit old new → TakesWithin (limit + 1) old new
 one_more limit old new few = record { taken = few.taken; takes = few.takes; within = let w = few.within in omega (arith, w) }
@@ -138,8 +131,8 @@ module _ (task : Task) (source sink errors : StreamChange) (is_finished : Type 0
         front = [];
         rest = [];
         later = [];
-        takes = takes_nothing source.old source.new same.bytes;
-        answers = subst (Appends sink.old sink.new) (sym (is_mode task).begins) (appends_nothing sink.old sink.new quiet);
+        takes = takes-nothing source.old source.new same.bytes;
+        answers = subst (Appends sink.old sink.new) (sym (is_mode task).begins) (appends-nothing sink.old sink.new quiet);
         handed = inl (is_mode task).begins;
         begins = sym (append-nil (answers_before task []));
         kept = omega arith;
@@ -152,7 +145,7 @@ module _ (task : Task) (quiet : is_answered task ≡ false) (source sink errors 
   silent taken = (is_mode task).quiet quiet taken
 
   no_answers : (taken : List ℕ) → sink.new ≡ sink.old → Appends sink.old sink.new (answers_before task taken)
-  no_answers taken same = subst (Appends sink.old sink.new) (sym (silent taken)) (appends_nothing sink.old sink.new same)
+  no_answers taken same = subst (Appends sink.old sink.new) (sym (silent taken)) (appends-nothing sink.old sink.new same)
 
   none_handed : (taken : List ℕ) → AreHandedOn (answers_before task taken) is_finished
   none_handed taken = inl (silent taken)

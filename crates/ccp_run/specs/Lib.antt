@@ -25,7 +25,6 @@ pub mod Complete
 pub mod DriveEnds
 pub mod Settled
 pub mod TextLaws
-pub mod FeedLaws
 pub mod SharedLaws
 pub mod DriveLaws
 pub mod Tool

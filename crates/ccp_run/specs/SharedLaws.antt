@@ -9,9 +9,9 @@ use Rattle.flow_core.specs.LiveText.{Account, account_of, flow_from}
 use Rattle.campaign_core.specs.declared.row.Row.{Row}
 use Rattle.shared_link.specs.declared.shared_case.SharedCase.{SharedCase}
 use Rattle.campaign_core.specs.FlowRow.{world_of_core}
+use Rattle.mode_laws.specs.RowLaws.{TellsRow}
 use Rattle.shared_run.specs.SharedHistory.{shared_rows}
 use Rattle.ccp_run.specs.SharedSeries.{source_flows}
-use Rattle.ccp_run.specs.TextLaws.{TellsRow}
 
 -- the account whose lines are a flow's part
 abbrev pub core_account : Sources → CoreState → Account

@@ -1,21 +1,13 @@
--- What the texts of `timeline` and `acks` say to the other modes: to `audit`, to `fold` and beside `campaign`.
-use Rattle.std.specs.Prelude.{◌≡◌, ◌≤◌, ◌<◌, ◌^◌, ◌-◌, ℕ, false, Ok, List, length, codes}
+-- What the texts of `timeline` and `acks` say to other modes: to `audit` and to `fold`.
+use Rattle.std.specs.Prelude.{◌≡◌, ◌≤◌, ◌<◌, ◌^◌, ℕ, false, Ok, List, length, codes}
 use Rattle.std.specs.List.{All}
 use Rattle.ccp_base.specs.declared.ack.Ack.{Ack}
 use Rattle.ccp_base.specs.declared.parts.Separator.TheVariants.{LineFeed}
-use Rattle.ccp_base.specs.declared.place.Place.{Place}
 use Rattle.ccp_base.specs.Acknowledgement.{primitives}
 use Rattle.ccp_base.specs.Limits.{most_acks}
 use Rattle.ccp_base.specs.Parts.{parts_of}
-use Rattle.link_model.specs.declared.link_case.LinkCase.{LinkCase}
-use Rattle.flow_core.specs.LiveText.{Account, account_of, report_count}
-use Rattle.flow_core.specs.Readings.{Flow}
-use Rattle.flow_core.specs.Words.{world}
 use Rattle.fold_run.specs.Acknowledgements.{acks_of_lines}
 use Rattle.fold_run.specs.Separated.{Cut}
-use Rattle.campaign_core.specs.declared.row.Row.{Row}
-use Rattle.campaign_core.specs.CampaignRow.{row_read}
-use Rattle.campaign_core.specs.CampaignWord.{plan_over}
 use Rattle.campaign_report.specs.AcksText.{ack_lines}
 use Rattle.run_ending.specs.declared.outcome.ModeOutput.{ModeOutput}
 use Rattle.ccp_run.specs.AuditRuns.{IsAuditCut, IsAuditOutput}
@@ -38,20 +30,3 @@ abbrev pub ReadsAcksBack : Type 0
 ReadsAcksBack =
     (acks : List Ack) (next : ℕ) → length acks ≤ most_acks → All IsOf64Bits acks
     → acks_of_lines next (parts_of LineFeed (ack_lines acks)) ≡ Ok acks
-
--- a row of a campaign's table has the numbers that the lines of an account show: its tickets with reports, its
--- faults, its epochs, and its last line
-pub record TellsRow (account : Account) (row : Row) : Type 0 where
-  pub acks : row.acks ≡ account.end.acks
-  pub reports : row.reports ≡ report_count account.tickets
-  pub held : row.held ≡ account.held
-  pub faults : row.faults ≡ length account.faults
-  pub epochs : row.epochs ≡ length account.epochs
-  pub cwnd : row.cwnd ≡ account.end.cwnd
-  pub tail : row.tail ≡ account.end.acks - account.end.first
-
--- the row of a flow and the account of its timeline show the same history
-abbrev pub TellsRows : Type 0
-TellsRows =
-    (flow : Flow Place) (link : LinkCase) (lag : ℕ)
-    → TellsRow (account_of flow (world flow link (plan_over flow link lag))) (row_read flow link lag)

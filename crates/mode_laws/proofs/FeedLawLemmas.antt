@@ -57,7 +57,7 @@ use Rattle.feed_core.specs.Feed.{FeedState, no_flows, Answer, MessageAnswer, the
 use Rattle.feed_core.specs.FeedHolds.{IsAcceptedThere, IsFlowThere}
 use Rattle.feed_core.specs.FeedBytes.{Tail, left, Fed, answer_bytes, answer_to, with_answers, fed_no_more, fed_on, fed, frames_from, feed_of}
 use Rattle.feed_core.proofs.FrameLawLemmas.{fed-fuel}
-use Rattle.ccp_run.specs.FeedLaws.{Sent, answers_to, deployed, fault_of, frames_of, listed, measure_of, Deployment, FeedAnswersAsFold, FeedAnswersFrames, StartsAsFold, StartsAtWindowZero}
+use Rattle.mode_laws.specs.FeedLaws.{Sent, answers_to, deployed, fault_of, frames_of, listed, measure_of, Deployment, FeedAnswersAsFold, FeedAnswersFrames, StartsAsFold, StartsAtWindowZero}
 
 -- ---- lists
 

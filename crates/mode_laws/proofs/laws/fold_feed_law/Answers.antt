@@ -1,5 +1,5 @@
-use Rattle.ccp_run.proofs.FeedLawLemmas.{answers-as-fold, answers-frames, starts-at-window-zero}
-use Rattle.ccp_run.proofs.laws.fold_feed_law.Goals as goal
+use Rattle.mode_laws.proofs.FeedLawLemmas.{answers-as-fold, answers-frames, starts-at-window-zero}
+use Rattle.mode_laws.proofs.laws.fold_feed_law.Goals as goal
 
 pub returns-clause-answers : goal.returns-clause-answers
 returns-clause-answers c = answers-as-fold
