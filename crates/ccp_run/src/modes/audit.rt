@@ -5,14 +5,12 @@ ghost use Rattle.ccp_base.specs.Limits.{most_flows};
 ghost use Rattle.scenario_json.specs.Cases.{IsCoded, AreNumberedFrom};
 ghost use Rattle.reg_compiler.specs.Sources.{sources_of};
 ghost use Rattle.run_audit.specs.Audit.{IsVerdict};
-ghost use Rattle.run_ending.specs.Streams.{stream_change};
-ghost use Rattle.ccp_run.specs.Attempts.{IsOutputOrRefusal, IsAttempt};
+ghost use Rattle.ccp_run.specs.Attempts.{IsOutputOrRefusal};
 ghost use Rattle.ccp_run.specs.AuditRuns.{verdict_text};
 ghost use Rattle.ccp_run.specs.Modes.{Task};
 
-use crate::reading::read_bytes;
 use crate::scene::scene;
-use ccp_base::{Bytes, NoMemory, Source};
+use ccp_base::{Bytes, NoMemory};
 use ccp_words::Alone;
 use fold_run::separate;
 use run_audit::{Verdict, audit};
@@ -20,18 +18,9 @@ use run_ending::{Limit, ModeOutput, Refusal, Stop};
 use scenario_json::{Scenario, SceneMode};
 use std::alloc::Global;
 
-/// Reads a scenario and a text below it, and makes the verdict on the text.
-#[tactic(auto, using(crate::proofs::ReadLemmas::not_read, crate::proofs::ReadLemmas::answered))]
-pub fn read_audit<S: Source>(alloc: Global, source: &mut S) -> Result<ModeOutput, Stop>
-    ensures { IsAttempt (Task.Alone Alone.Audit) (stream_change S.remaining S.faults source.old source.new) result }
-{
-    let bytes = read_bytes(alloc, Limit::Audit, source)?;
-    audit_output(alloc, bytes.as_slice())
-}
-
 /// The verdict on the text below the separator as the live text of the scenario above it, or the first refusal: of the
 /// separator, of the length before it, of the scenario.
-fn audit_output(alloc: Global, bytes: &[u8]) -> Result<ModeOutput, Stop>
+pub fn audit_output(alloc: Global, bytes: &[u8]) -> Result<ModeOutput, Stop>
     ensures { IsOutputOrRefusal (Task.Alone Alone.Audit) bytes.now result }
 {
     let Some(cut) = separate(bytes) else {

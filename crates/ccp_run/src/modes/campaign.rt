@@ -1,8 +1,7 @@
 //! The mode `campaign`: the table of a scenario's cases, after the programs' frames if the words ask for them.
 ghost use Rattle.std.specs.Prelude.{◌≡◌, ◌≤◌, ◌++◌, IfOk, length};
 ghost use Rattle.ccp_base.specs.Limits.{most_cases};
-ghost use Rattle.run_ending.specs.Streams.{stream_change};
-ghost use Rattle.ccp_run.specs.Attempts.{IsOutputOrRefusal, IsAttempt};
+ghost use Rattle.ccp_run.specs.Attempts.{IsOutputOrRefusal};
 ghost use Rattle.std.specs.List.{All};
 ghost use Rattle.campaign_report.specs.TableText.{table_text};
 ghost use Rattle.scenario_json.specs.Cases.{case_names, IsCoded, AreNumberedFrom};
@@ -10,38 +9,21 @@ ghost use Rattle.ccp_run.specs.Campaign.{TellsCampaign, frames_shown};
 ghost use Rattle.ccp_run.specs.Modes.{Task};
 
 use crate::modes::common::{agents, frames};
-use crate::reading::read_bytes;
 use crate::scene::scene;
 use campaign_gate::Rows;
 use campaign_gate::calls::rows;
 use campaign_report::{Agents, table_text};
-use ccp_base::{Bytes, Gate, Names, NoMemory, Source, Workers};
+use ccp_base::{Bytes, Gate, Names, NoMemory, Workers};
 use reg_compiler::Builts;
-use run_ending::{Limit, ModeOutput, Stop};
+use run_ending::{ModeOutput, Stop};
 use scenario_json::{Scenario, SceneMode};
 use std::alloc::Global;
 use std::sync::Wait;
 use std::thread::Threads;
 
-/// Reads a scenario, runs each of its cases on its campaign word, and makes the table.
-#[tactic(auto, using(crate::proofs::ReadLemmas::not_read, crate::proofs::ReadLemmas::answered))]
-pub fn read_campaign<R: Threads + Wait + Sync, S: Source, G: Gate + Sync>(
-    rt: &R,
-    alloc: Global,
-    workers: Workers,
-    wire: bool,
-    source: &mut S,
-    gate: &G,
-) -> Result<ModeOutput, Stop>
-    ensures { IsAttempt (Task.Campaign wire) (stream_change S.remaining S.faults source.old source.new) result }
-{
-    let bytes = read_bytes(alloc, Limit::Input, source)?;
-    campaign_output(rt, alloc, workers, wire, bytes.as_slice(), gate)
-}
-
 /// The table of the scenario that the bytes stand for, or its refusal.
 #[tactic(auto, using(crate::proofs::ScenarioInputs::of_cases))]
-fn campaign_output<R: Threads + Wait + Sync, G: Gate + Sync>(
+pub fn campaign_output<R: Threads + Wait + Sync, G: Gate + Sync>(
     rt: &R,
     alloc: Global,
     workers: Workers,

@@ -3,33 +3,22 @@ ghost use Rattle.std.specs.Prelude.{◌≡◌, ◌≤◌, ◌∷◌, [], IfOk, l
 ghost use Rattle.ccp_base.specs.Limits.{most_acks};
 ghost use Rattle.portus_core.specs.ProgramForm.{form_of};
 ghost use Rattle.fold_run.specs.Ran.{ran_of};
-ghost use Rattle.run_ending.specs.Streams.{stream_change};
-ghost use Rattle.ccp_run.specs.Attempts.{IsOutputOrRefusal, IsAttempt};
+ghost use Rattle.ccp_run.specs.Attempts.{IsOutputOrRefusal};
 ghost use Rattle.ccp_run.specs.Fold.{folded_text};
 ghost use Rattle.ccp_run.specs.Modes.{Task};
 
 use crate::program::{numbered_zero, program};
-use crate::reading::read_bytes;
 use campaign_report::fold_text;
-use ccp_base::{Ack, NoMemory, Source};
+use ccp_base::{Ack, NoMemory};
 use ccp_words::Alone;
 use fold_run::calls::fold_acks;
 use fold_run::{LineFault, acknowledgements, separate};
 use reg_compiler::Built;
-use run_ending::{Limit, ModeOutput, Refusal, Stop};
+use run_ending::{ModeOutput, Refusal, Stop};
 use std::alloc::Global;
 
-/// Reads a program and acknowledgements below it, and makes the program's fold over these.
-#[tactic(auto, using(crate::proofs::ReadLemmas::not_read, crate::proofs::ReadLemmas::answered))]
-pub fn read_fold<S: Source>(alloc: Global, source: &mut S) -> Result<ModeOutput, Stop>
-    ensures { IsAttempt (Task.Alone Alone.Fold) (stream_change S.remaining S.faults source.old source.new) result }
-{
-    let bytes = read_bytes(alloc, Limit::Input, source)?;
-    fold_output(alloc, bytes.as_slice())
-}
-
 /// The fold that the bytes ask for, or the first refusal: of the separator, the program, the lines.
-fn fold_output(alloc: Global, bytes: &[u8]) -> Result<ModeOutput, Stop>
+pub fn fold_output(alloc: Global, bytes: &[u8]) -> Result<ModeOutput, Stop>
     ensures { IsOutputOrRefusal (Task.Alone Alone.Fold) bytes.now result }
 {
     let Some(cut) = separate(bytes) else {

@@ -4,45 +4,26 @@ ghost use Rattle.std.specs.List.{All};
 ghost use Rattle.ccp_base.specs.Limits.{most_flows};
 ghost use Rattle.scene_core.specs.CasePlans.{AreFlowsFrom};
 ghost use Rattle.scenario_json.specs.Cases.{IsCoded, AreNumberedFrom};
-ghost use Rattle.run_ending.specs.Streams.{stream_change};
-ghost use Rattle.ccp_run.specs.Attempts.{IsOutputOrRefusal, IsAttempt};
+ghost use Rattle.ccp_run.specs.Attempts.{IsOutputOrRefusal};
 ghost use Rattle.ccp_run.specs.Live.{TellsLive};
 ghost use Rattle.ccp_run.specs.Modes.{Task};
 
 use crate::modes::common::books_text;
-use crate::reading::read_bytes;
 use crate::scene::scene;
 use agent_loop::live;
 use campaign_core::Cases;
-use ccp_base::{Gate, NoMemory, Source, Workers};
+use ccp_base::{Gate, NoMemory, Workers};
 use flow_core::Cell;
 use flow_table::FlowTable;
-use run_ending::{Limit, ModeOutput, Stop};
+use run_ending::{ModeOutput, Stop};
 use scenario_json::{Scenario, SceneMode};
 use std::alloc::Global;
 use std::sync::Wait;
 use std::thread::Threads;
 
-/// Reads a scenario, runs its flows on datapath and agent workers, and makes the text of their books.
-#[tactic(auto, using(crate::proofs::ReadLemmas::not_read, crate::proofs::ReadLemmas::answered))]
-pub fn read_live<R: Threads + Wait + Sync, S: Source, G: Gate + Sync>(
-    rt: &R,
-    alloc: Global,
-    datapaths: Workers,
-    agents: Workers,
-    wire: bool,
-    source: &mut S,
-    gate: &G,
-) -> Result<ModeOutput, Stop>
-    ensures { IsAttempt (Task.Live wire) (stream_change S.remaining S.faults source.old source.new) result }
-{
-    let bytes = read_bytes(alloc, Limit::Input, source)?;
-    live_output(rt, alloc, datapaths, agents, wire, bytes.as_slice(), gate)
-}
-
 /// The output for the flows of the scenario that the bytes stand for, or its refusal.
 #[tactic(auto, using(crate::proofs::ScenarioInputs::of_cases))]
-fn live_output<R: Threads + Wait + Sync, G: Gate + Sync>(
+pub fn live_output<R: Threads + Wait + Sync, G: Gate + Sync>(
     rt: &R,
     alloc: Global,
     datapaths: Workers,

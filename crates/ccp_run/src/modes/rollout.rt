@@ -2,40 +2,21 @@
 ghost use Rattle.std.specs.Prelude.{◌≤◌, IfOk, IfErr, length};
 ghost use Rattle.ccp_base.specs.Limits.{most_flows};
 ghost use Rattle.scene_members.specs.OpenCases.{AreOpenFlowsFrom};
-ghost use Rattle.run_ending.specs.Streams.{stream_change};
-ghost use Rattle.ccp_run.specs.Attempts.{IsOutputOrRefusal, IsAttempt};
+ghost use Rattle.ccp_run.specs.Attempts.{IsOutputOrRefusal};
 ghost use Rattle.ccp_run.specs.Rollout.{IsRolloutScenario, StopsRollout, TellsRollout};
 ghost use Rattle.ccp_run.specs.Modes.{Task};
 
-use crate::reading::read_bytes;
-use ccp_base::{Gate, NoMemory, Source, Workers};
+use ccp_base::{Gate, NoMemory, Workers};
 use live_install::{rollout, rollout_text};
-use run_ending::{Limit, ModeOutput, Stop};
+use run_ending::{ModeOutput, Stop};
 use scenario_json::OpenCases;
 use scenario_json::calls::rollout_scene;
 use std::alloc::Global;
 use std::sync::Wait;
 use std::thread::Threads;
 
-/// Reads a scenario of a rollout, runs its cases on datapath workers and installers, and makes the text of what
-/// happened.
-#[tactic(auto, using(crate::proofs::ReadLemmas::not_read, crate::proofs::ReadLemmas::answered))]
-pub fn read_rollout<R: Threads + Wait + Sync, S: Source, G: Gate + Sync>(
-    rt: &R,
-    alloc: Global,
-    datapaths: Workers,
-    agents: Workers,
-    source: &mut S,
-    gate: &G,
-) -> Result<ModeOutput, Stop>
-    ensures { IsAttempt Task.Rollout (stream_change S.remaining S.faults source.old source.new) result }
-{
-    let bytes = read_bytes(alloc, Limit::Input, source)?;
-    rollout_output(rt, alloc, datapaths, agents, bytes.as_slice(), gate)
-}
-
 /// The text of the scenario that the bytes stand for, or its refusal.
-fn rollout_output<R: Threads + Wait + Sync, G: Gate + Sync>(
+pub fn rollout_output<R: Threads + Wait + Sync, G: Gate + Sync>(
     rt: &R,
     alloc: Global,
     datapaths: Workers,

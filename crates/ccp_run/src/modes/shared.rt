@@ -6,40 +6,23 @@ ghost use Rattle.campaign_report.specs.TableText.{table_text};
 ghost use Rattle.scene_core.specs.CasePlans.{plan_of, AreFlowsFrom, flow_link_of, link_at_once};
 ghost use Rattle.scenario_json.specs.Cases.{case_names, IsCoded, AreNumberedFrom};
 ghost use Rattle.shared_link.specs.SharedLimits.{IsWithin};
-ghost use Rattle.run_ending.specs.Streams.{stream_change};
-ghost use Rattle.ccp_run.specs.Attempts.{IsOutputOrRefusal, IsAttempt};
+ghost use Rattle.ccp_run.specs.Attempts.{IsOutputOrRefusal};
 ghost use Rattle.ccp_run.specs.Shared.{link_line, text_of_scene};
 ghost use Rattle.ccp_run.specs.Modes.{Task};
 
 use crate::modes::common::agents;
 use crate::modes::shared_scene::{put_link_line, read_shared_scene};
-use crate::reading::read_bytes;
 use campaign_report::{Agents, table_text};
-use ccp_base::{Bytes, Gate, Names, NoMemory, Source, Workers};
-use run_ending::{Limit, ModeOutput, Stop};
+use ccp_base::{Bytes, Gate, Names, NoMemory, Workers};
+use run_ending::{ModeOutput, Stop};
 use scenario_json::SharedScene;
 use shared_run::{SharedRows, shared_rows};
 use std::alloc::Global;
 use std::sync::Wait;
 use std::thread::Threads;
 
-/// Reads a scenario of flows that share one link, runs them, and makes the table and the link's line.
-#[tactic(auto, using(crate::proofs::ReadLemmas::not_read, crate::proofs::ReadLemmas::answered))]
-pub fn read_shared<R: Threads + Wait + Sync, S: Source, G: Gate + Sync>(
-    rt: &R,
-    alloc: Global,
-    workers: Workers,
-    source: &mut S,
-    gate: &G,
-) -> Result<ModeOutput, Stop>
-    ensures { IsAttempt Task.Shared (stream_change S.remaining S.faults source.old source.new) result }
-{
-    let bytes = read_bytes(alloc, Limit::Input, source)?;
-    shared_output(rt, alloc, workers, bytes.as_slice(), gate)
-}
-
 /// The output for the flows of the scenario that the bytes stand for, or its refusal.
-fn shared_output<R: Threads + Wait + Sync, G: Gate + Sync>(
+pub fn shared_output<R: Threads + Wait + Sync, G: Gate + Sync>(
     rt: &R,
     alloc: Global,
     workers: Workers,
