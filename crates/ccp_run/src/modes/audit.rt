@@ -30,8 +30,9 @@ pub fn audit_output(alloc: Global, bytes: &[u8]) -> Result<ModeOutput, Stop>
         return Err(Stop::Refused(Refusal::TooLong(Limit::Input)));
     }
     let scene = scene(alloc, cut.program, SceneMode::Live)?;
-    let verdict = judge(alloc, &scene, cut.rest)?;
-    Ok(verdict_output(alloc, verdict)?)
+    let verdict = judge(alloc, &scene, cut.rest);
+    drop(scene);
+    Ok(verdict_output(alloc, verdict?)?)
 }
 
 // A function of its own: it proves what `audit` requires, from clauses about the scenario alone.

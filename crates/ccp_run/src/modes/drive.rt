@@ -26,7 +26,7 @@ use reg_compiler::Builts;
 use run_ending::{
     Limit, MEMORY_LINE, Outcome, READ_LINE, Refusal, Status, Stop, WRITE_LINE, end_without, refuse,
 };
-use scenario_json::SceneMode;
+use scenario_json::{Scenario, SceneMode};
 use std::alloc::Global;
 
 /// The bytes of the longest input.
@@ -143,13 +143,27 @@ fn driven_scene(alloc: Global, front: Front) -> Result<Opened, Stop>
     ensures opened { IfOk result (IsDrivenScene front.text front.eaten) }
     ensures err { IfErr result (StopsScene modes.Driven front.text) }
 {
-    let scene = scene(alloc, front.text.as_slice(), SceneMode::Driven)?;
-    let cases = driven_cases(alloc, scene.cases.as_slice())?;
-    Ok(Opened {
-        programs: scene.programs,
+    let Scenario {
+        programs,
+        names,
         cases,
-        place: front.eaten,
-    })
+    } = scene(alloc, front.text.as_slice(), SceneMode::Driven)?;
+    drop(names);
+    match driven_cases(alloc, cases.as_slice()) {
+        Ok(driven) => {
+            drop(cases);
+            Ok(Opened {
+                programs,
+                cases: driven,
+                place: front.eaten,
+            })
+        }
+        Err(error) => {
+            drop(cases);
+            drop(programs);
+            Err(Stop::NoMemory(error))
+        }
+    }
 }
 
 /// Answers the frames of a scenario's flows.
@@ -175,7 +189,10 @@ fn drive_flows<D: Duplex>(alloc: Global, opened: Opened, rest: &mut Rest, duplex
     } = opened;
     let coded = Programs::new(programs.as_slice());
     let mut session = Session::begin(alloc, &coded, cases);
-    drive_session(alloc, &mut session, rest, place, duplex)
+    let end = drive_session(alloc, &mut session, rest, place, duplex);
+    drop(session);
+    drop(programs);
+    end
 }
 
 /// Writes the first frame of a session, then answers the frames that begin at a place of the input.

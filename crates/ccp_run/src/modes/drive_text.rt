@@ -78,10 +78,24 @@ fn made_of<S: Source>(
     } = opened;
     let coded = Programs::new(programs.as_slice());
     let mut session = Session::begin(alloc, &coded, cases);
-    hear_out(alloc, &mut session, rest, place, unheard)?;
-    let text = flows_text(alloc, shown, wire, &programs, session.ended())?;
-    drop(session);
-    Ok(ModeOutput::with_programs(alloc, text, programs))
+    match hear_out(alloc, &mut session, rest, place, unheard) {
+        Ok(()) => {
+            let text = flows_text(alloc, shown, wire, &programs, session.ended());
+            drop(session);
+            match text {
+                Ok(text) => Ok(ModeOutput::with_programs(alloc, text, programs)),
+                Err(error) => {
+                    drop(programs);
+                    Err(Stop::NoMemory(error))
+                }
+            }
+        }
+        Err(stop) => {
+            drop(session);
+            drop(programs);
+            Err(stop)
+        }
+    }
 }
 
 /// Answers the frames of a session to their end, where nobody hears the answers.

@@ -27,9 +27,18 @@ pub fn fold_output(alloc: Global, bytes: &[u8]) -> Result<ModeOutput, Stop>
     let built = program(alloc, cut.program)?;
     match acknowledgements(alloc, cut.rest, cut.next) {
         Ok(acks) => Ok(run_fold(alloc, built, acks.as_slice())?),
-        Err(LineFault::Line(number)) => Err(Stop::Refused(Refusal::Line(number))),
-        Err(LineFault::TooMany) => Err(Stop::Refused(Refusal::TooManyAcks)),
-        Err(LineFault::NoMemory(error)) => Err(Stop::NoMemory(error)),
+        Err(LineFault::Line(number)) => {
+            drop(built);
+            Err(Stop::Refused(Refusal::Line(number)))
+        }
+        Err(LineFault::TooMany) => {
+            drop(built);
+            Err(Stop::Refused(Refusal::TooManyAcks))
+        }
+        Err(LineFault::NoMemory(error)) => {
+            drop(built);
+            Err(Stop::NoMemory(error))
+        }
     }
 }
 

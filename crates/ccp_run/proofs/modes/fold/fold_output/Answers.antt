@@ -4,8 +4,8 @@ use Rattle.fold_run.specs.Ran.{ran_of}
 use Rattle.ccp_run.specs.Fold.{folded_text}
 use Rattle.ccp_run.proofs.modes.fold.fold_output.Goals as goal
 
-pub returns-in-Ok : goal.returns-in-Ok
-returns-in-Ok c =
+pub returns-in_ok-run_fold-in-Ok : goal.returns-in_ok-run_fold-in-Ok
+returns-in_ok-run_fold-in-Ok c =
     let cut = c.in-Some.cut in
     let built = c.in_ok-built.built in
     let form = form_of built.program in
