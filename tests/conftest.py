@@ -6,6 +6,7 @@ import os
 import shutil
 import signal
 from pathlib import Path
+from typing import List, Optional
 
 import pytest
 import support
@@ -56,6 +57,29 @@ def driver(request: pytest.FixtureRequest, program: Path, tmp_path_factory: pyte
 def repository() -> Path:
     """The top of the repository."""
     return support.REPOSITORY
+
+
+@pytest.hookimpl(tryfirst=True)
+def pytest_collection_modifyitems(config: pytest.Config, items: List[pytest.Item]) -> None:
+    """Slow tests and groups begin first, so that at the end no process waits for one. With xdist the tests of a group
+    run in one process, and all others wherever there is room."""
+    items.sort(key=lambda item: (item.get_closest_marker("slow") is None, group_of(item) is None))
+    if config.pluginmanager.hasplugin("xdist"):
+        for item in items:
+            group = group_of(item)
+            if group:
+                item.add_marker(pytest.mark.xdist_group(group))
+
+
+def group_of(item: pytest.Item) -> Optional[str]:
+    """The group of a test: the one that it is marked with, or that of the fixtures of module scope that it uses, which
+    are costly. A fixture that costs little has the scope of a session, and each process makes its own."""
+    marker = item.get_closest_marker("together")
+    if marker:
+        return str(marker.args[0])
+    found = getattr(item, "_fixtureinfo").name2fixturedefs
+    costly = sorted(name for name, definitions in found.items() if definitions[-1].scope == "module")
+    return "-".join([item.path.stem, *costly]) if costly else None
 
 
 def is_there(name: str) -> bool:

@@ -10,6 +10,7 @@ import sys
 from pathlib import Path
 from typing import Any, Dict, Iterable, NamedTuple, Sequence
 
+import forked
 import pytest
 
 from ccp_tools.program import find_program
@@ -52,17 +53,40 @@ def shown(page: str, command: str) -> str:
 
 def ran(words: Sequence[object], given: str | bytes | None = None, **more: Any) -> Ran:
     """Runs a command. Its input is empty where none is given; `env` adds to the environment."""
-    env = {**os.environ, "PYTHONPATH": str(REPOSITORY / "src"), "PYTHONDONTWRITEBYTECODE": "1", **more.pop("env", {})}
-    data = given.encode("utf-8", "surrogateescape") if isinstance(given, str) else given or b""
+    env = environment(**more.pop("env", {}))
     done = subprocess.run(
-        [str(word) for word in words], input=data, stdout=subprocess.PIPE, stderr=subprocess.PIPE, env=env, **more
+        [str(word) for word in words],
+        input=bytes_of(given),
+        stdout=subprocess.PIPE,
+        stderr=subprocess.PIPE,
+        env=env,
+        **more,
     )
-    return Ran(done.stdout.decode("utf-8", "surrogateescape"), done.stderr.decode("utf-8", "replace"), done.returncode)
+    return decoded(done.stdout, done.stderr, done.returncode)
+
+
+def environment(**more: str) -> Dict[str, str]:
+    """The environment of a command: the package is that of this repository, and nothing is written beside it."""
+    return {**os.environ, "PYTHONPATH": str(REPOSITORY / "src"), "PYTHONDONTWRITEBYTECODE": "1", **more}
+
+
+def bytes_of(given: str | bytes | None) -> bytes:
+    """The bytes of an input."""
+    return given.encode("utf-8", "surrogateescape") if isinstance(given, str) else given or b""
+
+
+def decoded(output: bytes, errors: bytes, status: int) -> Ran:
+    """What a process printed, and its status."""
+    return Ran(output.decode("utf-8", "surrogateescape"), errors.decode("utf-8", "replace"), status)
 
 
 def command(name: str, *words: object, given: str | bytes | None = None, **more: Any) -> Ran:
-    """Runs `ccp NAME ..` of the package in a process of its own."""
-    return ran([sys.executable, "-m", "ccp_tools", name, *words], given, **more)
+    """Runs `ccp NAME ..` of the package in a process of its own. One that is asked for nothing else begins with the
+    libraries that all of them use, whose import takes most of its time."""
+    if more:
+        return ran([sys.executable, "-m", "ccp_tools", name, *words], given, **more)
+    texts = [str(word) for word in (name, *words)]
+    return decoded(*forked.server(environment()).run(texts, bytes_of(given), environment(), os.getcwd()))
 
 
 def ccp(*words: object, given: str | bytes | None = None) -> Ran:

@@ -165,7 +165,7 @@ def test_the_learner_as_a_command(driver: Path) -> None:
 # ---- in C
 
 
-@pytest.fixture(scope="module")
+@pytest.fixture(scope="session")
 def compiled(tmp_path_factory: pytest.TempPathFactory) -> Path:
     """The agent in C."""
     compiler = next((name for name in ("cc", "gcc", "clang") if shutil.which(name)), None)

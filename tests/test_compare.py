@@ -115,7 +115,13 @@ def rows_of_page(page: str):
         yield cells, "doubtful" in row, 'best"' in row
 
 
-@pytest.mark.parametrize("name, begin_us, extra", [("compared", 0, 0), ("aggregated", 100_000, 1)])
+@pytest.mark.parametrize(
+    "name, begin_us, extra",
+    [
+        pytest.param("compared", 0, 0, marks=pytest.mark.together("test_compare-compared")),
+        pytest.param("aggregated", 100_000, 1, marks=pytest.mark.together("test_compare-aggregated")),
+    ],
+)
 def test_each_figure_of_the_report(request, name, begin_us, extra):
     """In the first table, in what is printed, in metrics.csv, and in the table over all traces. `extra` columns say in
     what the cases of a trace differ."""

@@ -142,7 +142,7 @@ WORK = {
 }
 
 
-@pytest.fixture(scope="module")
+@pytest.fixture(scope="session")
 def run_of(program: Path, tmp_path_factory: pytest.TempPathFactory) -> Dict[str, Path]:
     """The files of a run of one case."""
     folder = tmp_path_factory.mktemp("work")

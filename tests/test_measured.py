@@ -20,7 +20,7 @@ LOG = DATA / "mm-link.log"
 SPAN_MS = 400
 
 
-@pytest.fixture(scope="module")
+@pytest.fixture(scope="session")
 def link(tmp_path_factory: pytest.TempPathFactory) -> Path:
     """The link of the log as a trace."""
     path = tmp_path_factory.mktemp("measured") / "link.trace"

@@ -316,6 +316,7 @@ def test_an_interrupt_keeps_the_parts_that_are_done(
 
 
 @pytest.mark.slow
+@pytest.mark.together("hosts")
 def test_over_three_hosts(tmp_path: Path, program: Path) -> None:
     """A host that doesn't exist is left out, and one that is cut off in the middle loses nothing."""
     scenario = grid(TEXTS, [10, 20], 60)
@@ -342,6 +343,7 @@ def test_over_three_hosts(tmp_path: Path, program: Path) -> None:
 
 
 @pytest.mark.slow
+@pytest.mark.together("hosts")
 def test_machines_are_tried_first(tmp_path: Path, program: Path) -> None:
     """One with another program, without it, or that can't be reached, is named before anything runs."""
     path = saved(tmp_path, grid({"fixed": TEXTS["fixed"]}, [10], 60))

@@ -334,7 +334,7 @@ def test_install_takes_the_program(place: Place) -> None:
 # ---- a new user
 
 
-@pytest.fixture(scope="module")
+@pytest.fixture(scope="session")
 def clone(tmp_path_factory: pytest.TempPathFactory) -> Path:
     """A fresh clone of this checkout, whose release/ has the program of its sources."""
     folder = tmp_path_factory.mktemp("clone") / "ccp"
@@ -600,6 +600,7 @@ def made_by_debootstrap(top: Path) -> Path:
 in_debian = needs("debootstrap", "lintian", "man", "git", "dpkg-deb", "xz")
 
 
+@pytest.mark.slow
 @in_debian
 def test_the_packages_are_free_of_errors_of_lintian(debian: Debian) -> None:
     assert set(debian.packages) == {"ccp", "ccp-tools"}, "tools/release makes them in dist/"
@@ -608,6 +609,7 @@ def test_the_packages_are_free_of_errors_of_lintian(debian: Debian) -> None:
     assert done.returncode == 0 and "E: " not in done.stdout, done.stdout
 
 
+@pytest.mark.slow
 @in_debian
 def test_the_package_of_the_program(debian: Debian) -> None:
     """It needs nothing that an empty Debian lacks, answers, and leaves nothing behind."""
@@ -631,6 +633,7 @@ def test_the_package_of_the_program(debian: Debian) -> None:
     assert debian.files() == before
 
 
+@pytest.mark.slow
 @in_debian
 def test_the_package_of_the_commands(debian: Debian) -> None:
     """With what it depends on, which apt installs, a command answers; one that needs more names what to install."""
