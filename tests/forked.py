@@ -10,11 +10,12 @@ import importlib
 import json
 import os
 import runpy
+import signal
 import socket
 import subprocess
 import sys
 import tempfile
-from typing import Any, Dict, List, Sequence, Tuple
+from typing import Any, Dict, List, Optional, Sequence, Tuple
 
 LIBRARIES = (
     "pandas",
@@ -35,22 +36,38 @@ class Server:
         quiet = subprocess.DEVNULL
         with theirs:
             words = [sys.executable, __file__, str(theirs.fileno())]
-            self.process = subprocess.Popen(words, stdin=quiet, stdout=quiet, pass_fds=[theirs.fileno()], env=env)
+            self.process = subprocess.Popen(
+                words, stdin=quiet, stdout=quiet, pass_fds=[theirs.fileno()], env=env, start_new_session=True
+            )
 
-    def run(self, words: Sequence[str], data: bytes, env: Dict[str, str], cwd: str) -> Tuple[bytes, bytes, int]:
-        """What `python3 -m ccp_tools WORDS ..` prints on both outputs, and its status as that of a process."""
+    def run(
+        self, words: Sequence[str], data: bytes, env: Dict[str, str], cwd: str, timeout: Optional[float] = None
+    ) -> Tuple[bytes, bytes, int]:
+        """What `python3 -m ccp_tools WORDS ..` prints on both outputs, and its status as that of a process. One that
+        takes more seconds than `timeout` is ended, and the server with it."""
         request = json.dumps({"words": list(words), "env": env, "cwd": cwd}).encode()
         with contextlib.ExitStack() as stack:
             given, output, errors = (stack.enter_context(tempfile.TemporaryFile()) for _ in range(3))
             given.write(data)
             given.seek(0)
             socket.send_fds(self.own, [request], [file.fileno() for file in (given, output, errors)])
-            status = self.own.recv(64)
+            self.own.settimeout(timeout)
+            try:
+                status = self.own.recv(64)
+            except socket.timeout:
+                self.end()
+                raise subprocess.TimeoutExpired(list(words), timeout or 0) from None
             if not status:
                 raise RuntimeError("the server of commands has ended")
             output.seek(0)
             errors.seek(0)
             return output.read(), errors.read(), int(status)
+
+    def end(self) -> None:
+        """Ends the server and its command. The next command starts another one."""
+        STARTED.remove(self)
+        os.killpg(self.process.pid, signal.SIGKILL)
+        self.process.wait()
 
 
 STARTED: List[Server] = []

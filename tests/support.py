@@ -83,10 +83,10 @@ def decoded(output: bytes, errors: bytes, status: int) -> Ran:
 def command(name: str, *words: object, given: str | bytes | None = None, **more: Any) -> Ran:
     """Runs `ccp NAME ..` of the package in a process of its own. One that is asked for nothing else begins with the
     libraries that all of them use, whose import takes most of its time."""
-    if more:
+    if set(more) - {"timeout"}:
         return ran([sys.executable, "-m", "ccp_tools", name, *words], given, **more)
-    texts = [str(word) for word in (name, *words)]
-    return decoded(*forked.server(environment()).run(texts, bytes_of(given), environment(), os.getcwd()))
+    texts, env = [str(word) for word in (name, *words)], environment()
+    return decoded(*forked.server(env).run(texts, bytes_of(given), env, os.getcwd(), **more))
 
 
 def ccp(*words: object, given: str | bytes | None = None) -> Ran:
