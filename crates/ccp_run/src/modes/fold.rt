@@ -9,7 +9,7 @@ ghost use Rattle.ccp_run.specs.Modes.{Task};
 
 use crate::program::{numbered_zero, program};
 use campaign_report::fold_text;
-use ccp_base::{Ack, NoMemory};
+use ccp_base::{Ack, Bytes, NoMemory, Sequence};
 use ccp_words::Alone;
 use fold_run::calls::fold_acks;
 use fold_run::{LineFault, acknowledgements, separate};
@@ -50,11 +50,48 @@ fn run_fold(alloc: Global, built: Built, acks: &[Ack]) -> Result<ModeOutput, NoM
     ensures programs { IfOk result (λ output. output.programs ≡ (0, built) ∷ []) }
     ensures ran { IfOk result (λ output. output.ran ≡ ran_of built.code.code acks.now) }
 {
-    let folded = fold_acks(alloc, &built, acks)?;
-    let text = fold_text(alloc, &built, &folded.reports, folded.fault, &folded.end)?;
+    match shown(alloc, &built, acks) {
+        Ok(told) => fold_made(alloc, told, built),
+        Err(error) => {
+            drop(built);
+            Err(error)
+        }
+    }
+}
+
+/// What a fold shows: its text, and how many instructions the code ran.
+#[derive(Drop)]
+struct Told {
+    text: Bytes,
+    ran: u64,
+}
+
+/// What a program's fold over acknowledgements shows.
+fn shown(alloc: Global, built: &Built, acks: &[Ack]) -> Result<Told, NoMemory>
+    requires { length acks.now ≤ most_acks }
+    ensures text { IfOk result (λ told. told.text ≡ folded_text (form_of built.now.program) acks.now) }
+    ensures ran { IfOk result (λ told. told.ran ≡ ran_of built.now.code.code acks.now) }
+{
+    let folded = fold_acks(alloc, built, acks)?;
+    let text = fold_text(alloc, built, &folded.reports, folded.fault, &folded.end)?;
+    Ok(Told {
+        text,
+        ran: folded.ran,
+    })
+}
+
+/// The output with that text and this program.
+fn fold_made(alloc: Global, told: Told, built: Built) -> Result<ModeOutput, NoMemory>
+    ensures text { IfOk result (λ output. output.text ≡ told.text) }
+    ensures books { IfOk result (λ output. output.books ≡ []) }
+    ensures programs { IfOk result (λ output. output.programs ≡ (0, built) ∷ []) }
+    ensures ran { IfOk result (λ output. output.ran ≡ told.ran) }
+{
     let programs = numbered_zero(alloc, built)?;
     Ok(ModeOutput {
-        ran: folded.ran,
-        ..ModeOutput::with_programs(alloc, text, programs)
+        text: told.text,
+        books: Sequence::new(alloc),
+        programs,
+        ran: told.ran,
     })
 }
