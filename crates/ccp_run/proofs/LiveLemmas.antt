@@ -1,6 +1,8 @@
 -- The books of a live run show what their words mean over the sources of the programs.
-use Rattle.std.proofs.Common.{◌≡◌, ◌∙◌, ℕ, suc, ◌+◌, List, [], ◌∷◌, ◌++◌, map, ap, sym, subst, refl, arith}
+use Rattle.std.proofs.Common.{◌≡◌, ◌∙◌, ℕ, suc, ◌+◌, Bool, Result, Ok, Err, List, [], ◌∷◌, ◌++◌, map, ap, sym, subst, refl, arith}
+use Rattle.std.specs.Prelude.{IfOk}
 use Rattle.std.specs.List.{All}
+use Rattle.std.proofs.lemmas.Result.{IfOk-at_ok}
 use Rattle.std.proofs.lemmas.List.Elements.{All-cons, All-nil}
 use Rattle.ccp_base.specs.declared.exchange.Notice.{Notice}
 use Rattle.ccp_base.specs.declared.place.Place.{Place}
@@ -27,7 +29,8 @@ use Rattle.campaign_report.specs.BookText.{placed_failure, program_places}
 use Rattle.campaign_report.specs.BooksRead.{content_of, answered_of, read_flow, read_world, IsBookRead, IsBookReadAs}
 use Rattle.scenario_json.specs.Cases.{IsCoded, AreNumberedFrom}
 use Rattle.reg_compiler.specs.Sources.{sources_of}
-use Rattle.ccp_run.specs.Live.{IsRightBook, book_cases}
+use Rattle.run_ending.specs.declared.outcome.ModeOutput.{ModeOutput}
+use Rattle.ccp_run.specs.Live.{IsRightBook, TellsLive, book_cases, books_written}
 use Rattle.ccp_run.proofs.CodedLemmas.{simulated}
 
 -- ---- the flow numbers of the cases, as a table of flows requires them
@@ -129,8 +132,14 @@ right_books programs numbered (book ∷ rest) whole coded =
 pub books_read : (programs : List (ℕ × Built)) (books : List Book) → All (IsRightBook programs) books → All (IsBookRead programs) books
 books_read programs books told = λ k d h. (told k d h).read
 
--- the books of a table of coded cases
-pub books_of : (programs : List (ℕ × Built)) → AreNumberedFrom 0 programs → (cases table : List Case) (books : List Book)
-    → All (IsCoded programs) cases → table ≡ cases → AreBooksOf table books → All (IsRightBook programs) books
-books_of programs numbered cases table books coded same are =
-    right_books programs numbered books are.1 (subst (λ (cs : List Case). All (IsCoded programs) cs) (sym (are.0 ∙ same)) coded)
+-- the output of the books of coded cases, if there was memory for it
+pub live_told : {E : Type 0} (programs : List (ℕ × Built)) → AreNumberedFrom 0 programs → (cases : List Case) → All (IsCoded programs) cases
+    → (wire : Bool) (books : Result (List Book) E) (made : Result ModeOutput E) → IfOk books (AreBooksOf cases) → IfOk made (λ o. books ≡ Ok o.books)
+    → IfOk made (λ o. All (IsRightBook programs) o.books → o.text ≡ books_written wire programs o.books) → IfOk made (λ o. o.ran ≡ 0)
+    → IfOk made (TellsLive wire programs cases)
+live_told programs numbered cases coded wire books (Ok output) are kept text ran =
+    let is : AreBooksOf cases output.books = IfOk-at_ok (AreBooksOf cases) kept are in
+    let right : All (IsRightBook programs) output.books =
+    right_books programs numbered output.books is.1 (subst (λ (cs : List Case). All (IsCoded programs) cs) (sym is.0) coded) in
+    record { books = is.0; right = right; written = text right; idle = ran }
+live_told programs numbered cases coded wire books (Err error) are kept text ran = tt

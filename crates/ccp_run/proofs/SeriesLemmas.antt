@@ -1,6 +1,8 @@
 -- The books of flows over their cases' codes have the text of the flows' parts, read over the sources of the programs.
-use Rattle.std.proofs.Common.{◌≡◌, ◌∙◌, ◌≤◌, ℕ, suc, ◌+◌, nat_le, Option, List, [], ◌∷◌, ◌++◌, length, map, append_assoc, length-append, leb-true, ap, sym, subst, refl, arith}
+use Rattle.std.proofs.Common.{◌≡◌, ◌∙◌, ◌≤◌, ℕ, suc, ◌+◌, nat_le, Option, Result, Ok, Err, List, [], ◌∷◌, ◌++◌, length, map, append_assoc, length-append, leb-true, ap, sym, subst, refl, arith}
+use Rattle.std.specs.Prelude.{IfOk}
 use Rattle.std.proofs.lemmas.Bool.{and_parts}
+use Rattle.std.proofs.lemmas.Result.{IfOk-at_ok}
 use Rattle.std.specs.List.{All}
 use Rattle.ccp_base.specs.declared.ack.Ack.{Ack}
 use Rattle.ccp_base.specs.declared.place.Place.{Place}
@@ -28,6 +30,7 @@ use Rattle.campaign_report.specs.BooksRead.{IsBookReadAs, read_flow}
 use Rattle.campaign_report.proofs.BookLemmas.{book-part-as}
 use Rattle.scenario_json.specs.Cases.{IsCoded, AreNumberedFrom}
 use Rattle.shared_run.specs.SharedBooks.{IsGivenOf, AreGivensOf}
+use Rattle.run_ending.specs.declared.outcome.ModeOutput.{ModeOutput}
 use Rattle.ccp_run.specs.SharedSeries.{core_part, core_parts}
 use Rattle.ccp_run.proofs.CodedLemmas.{simulated}
 use Rattle.ccp_run.proofs.LiveLemmas.{place, read_as}
@@ -141,3 +144,9 @@ acks_given [] [] are = refl
 acks_given [] (given ∷ givens) are = absurd are
 acks_given (core ∷ cores) [] are = absurd are
 acks_given (core ∷ cores) (given ∷ givens) are = λ i. are.0.acks i ∷ acks_given cores givens are.1 i
+
+-- the text of an output, if there was memory for it
+pub text_told : {E : Type 0} (wanted : List ℕ) (text : Result (List ℕ) E) (made : Result ModeOutput E)
+    → IfOk text (λ t. t ≡ wanted) → IfOk made (λ o. text ≡ Ok o.text) → IfOk made (λ o. o.text ≡ wanted)
+text_told wanted text (Ok output) is shown = IfOk-at_ok (λ t. t ≡ wanted) shown is
+text_told wanted text (Err error) is shown = tt

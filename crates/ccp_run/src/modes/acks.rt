@@ -1,17 +1,22 @@
 //! The mode `acks`: the cases of a scenario on their campaign words, as lines of acknowledgements.
-ghost use Rattle.std.specs.Prelude.{◌≡◌, ◌≤◌, IfOk, length};
+ghost use Rattle.std.specs.Prelude.{◌≡◌, ◌≤◌, IfOk, length, map};
 ghost use Rattle.std.specs.List.{All};
 ghost use Rattle.ccp_base.specs.Limits.{most_flows};
+ghost use Rattle.flow_core.specs.declared.case.Case.{Case};
+ghost use Rattle.campaign_gate.specs.CampaignBooks.{HasSourcePlan, acks_of_case};
+ghost use Rattle.campaign_report.specs.AcksText.{acks_text};
 ghost use Rattle.scenario_json.specs.Cases.{case_names, IsCoded, AreNumberedFrom};
 ghost use Rattle.ccp_run.specs.AcksRuns.{TellsAcks};
 ghost use Rattle.ccp_run.specs.Attempts.{IsOutputOrRefusal};
+ghost use Rattle.ccp_run.specs.Campaign.{case_agents};
 ghost use Rattle.ccp_run.specs.Modes.{Task};
 
-use crate::modes::common::agents;
+use crate::modes::common::{agents, text_output};
 use crate::scene::scene;
+use campaign_core::Cases;
 use campaign_gate::calls::acks;
-use campaign_report::acks_text;
-use ccp_base::{Gate, NoMemory, Workers};
+use campaign_report::{Agents, acks_text};
+use ccp_base::{Bytes, Gate, Names, NoMemory, Workers};
 use run_ending::{ModeOutput, Stop};
 use scenario_json::{Scenario, SceneMode};
 use std::alloc::Global;
@@ -48,8 +53,55 @@ fn run_acks<R: Threads + Wait + Sync, G: Gate + Sync>(
     ensures programs { IfOk result (λ output. output.programs ≡ scene.programs) }
     ensures tells { IfOk result (TellsAcks scene.programs scene.cases) }
 {
-    let agents = agents(alloc, scene.cases.as_slice())?;
-    let acks = acks(rt, alloc, scene.cases, workers, gate)?;
-    let text = acks_text(alloc, &scene.names, &agents, &acks)?;
-    Ok(ModeOutput::with_programs(alloc, text, scene.programs))
+    let Scenario {
+        programs,
+        names,
+        cases,
+    } = scene;
+    let text = cases_text(rt, alloc, workers, &names, cases, gate);
+    drop(names);
+    text_output(alloc, text, programs)
+}
+
+/// The lines of the cases' acknowledgements.
+fn cases_text<R: Threads + Wait + Sync, G: Gate + Sync>(
+    rt: &R,
+    alloc: Global,
+    workers: Workers,
+    names: &Names,
+    cases: Cases,
+    gate: &G,
+) -> Result<Bytes, NoMemory>
+    requires names { names.now ≡ case_names cases }
+    requires few { length cases ≤ most_flows }
+    ensures text { IfOk result (λ text. text ≡ acks_text (case_names cases) (case_agents cases) (map acks_of_case cases)) }
+    ensures source { IfOk result (λ text. (case : Case) → HasSourcePlan case) }
+{
+    match agents(alloc, cases.as_slice()) {
+        Ok(agents) => labelled_text(rt, alloc, workers, names, &agents, cases, gate),
+        Err(error) => {
+            drop(cases);
+            Err(error)
+        }
+    }
+}
+
+/// The same, of cases that have these agents.
+fn labelled_text<R: Threads + Wait + Sync, G: Gate + Sync>(
+    rt: &R,
+    alloc: Global,
+    workers: Workers,
+    names: &Names,
+    agents: &Agents,
+    cases: Cases,
+    gate: &G,
+) -> Result<Bytes, NoMemory>
+    requires names { names.now ≡ case_names cases }
+    requires agents { agents.now ≡ case_agents cases }
+    requires few { length cases ≤ most_flows }
+    ensures text { IfOk result (λ text. text ≡ acks_text (case_names cases) (case_agents cases) (map acks_of_case cases)) }
+    ensures source { IfOk result (λ text. (case : Case) → HasSourcePlan case) }
+{
+    let acks = acks(rt, alloc, cases, workers, gate)?;
+    acks_text(alloc, names, agents, &acks)
 }

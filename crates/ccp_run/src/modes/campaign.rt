@@ -5,11 +5,12 @@ ghost use Rattle.ccp_run.specs.Attempts.{IsOutputOrRefusal};
 ghost use Rattle.std.specs.List.{All};
 ghost use Rattle.campaign_report.specs.TableText.{table_text};
 ghost use Rattle.scenario_json.specs.Cases.{case_names, IsCoded, AreNumberedFrom};
-ghost use Rattle.ccp_run.specs.Campaign.{TellsCampaign, frames_shown};
+ghost use Rattle.ccp_run.specs.Campaign.{TellsCampaign, campaign_text, case_agents, frames_shown};
 ghost use Rattle.ccp_run.specs.Modes.{Task};
 
-use crate::modes::common::{agents, frames};
+use crate::modes::common::{agents, frames, text_output};
 use crate::scene::scene;
+use campaign_core::Cases;
 use campaign_gate::Rows;
 use campaign_gate::calls::rows;
 use campaign_report::{Agents, table_text};
@@ -54,10 +55,65 @@ fn run_campaign<R: Threads + Wait + Sync, G: Gate + Sync>(
     ensures programs { IfOk result (λ output. output.programs ≡ scene.programs) }
     ensures tells { IfOk result (TellsCampaign wire scene.programs scene.cases) }
 {
-    let agents = agents(alloc, scene.cases.as_slice())?;
-    let rows = rows(rt, alloc, scene.cases, workers, gate)?;
-    let text = rows_text(alloc, wire, &scene.programs, &scene.names, &agents, &rows)?;
-    Ok(ModeOutput::with_programs(alloc, text, scene.programs))
+    let Scenario {
+        programs,
+        names,
+        cases,
+    } = scene;
+    let text = cases_text(rt, alloc, workers, wire, &programs, &names, cases, gate);
+    drop(names);
+    text_output(alloc, text, programs)
+}
+
+/// The table of cases of these programs, after the programs' frames if they are asked for.
+fn cases_text<R: Threads + Wait + Sync, G: Gate + Sync>(
+    rt: &R,
+    alloc: Global,
+    workers: Workers,
+    wire: bool,
+    programs: &Builts,
+    names: &Names,
+    cases: Cases,
+    gate: &G,
+) -> Result<Bytes, NoMemory>
+    requires names { names.now ≡ case_names cases }
+    requires few { length cases ≤ most_cases }
+    requires numbered { AreNumberedFrom 0 programs.now }
+    requires coded { All (IsCoded programs.now) cases }
+    ensures { IfOk result (λ text. text ≡ campaign_text wire programs.now cases) }
+{
+    match agents(alloc, cases.as_slice()) {
+        Ok(agents) => labelled_text(
+            rt, alloc, workers, wire, programs, names, &agents, cases, gate,
+        ),
+        Err(error) => {
+            drop(cases);
+            Err(error)
+        }
+    }
+}
+
+/// The same, of cases that have these agents.
+fn labelled_text<R: Threads + Wait + Sync, G: Gate + Sync>(
+    rt: &R,
+    alloc: Global,
+    workers: Workers,
+    wire: bool,
+    programs: &Builts,
+    names: &Names,
+    agents: &Agents,
+    cases: Cases,
+    gate: &G,
+) -> Result<Bytes, NoMemory>
+    requires names { names.now ≡ case_names cases }
+    requires agents { agents.now ≡ case_agents cases }
+    requires few { length cases ≤ most_cases }
+    requires numbered { AreNumberedFrom 0 programs.now }
+    requires coded { All (IsCoded programs.now) cases }
+    ensures { IfOk result (λ text. text ≡ campaign_text wire programs.now cases) }
+{
+    let rows = rows(rt, alloc, cases, workers, gate)?;
+    rows_text(alloc, wire, programs, names, agents, &rows)
 }
 
 /// The table of rows, after the programs' frames if they are asked for.

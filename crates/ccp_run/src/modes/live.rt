@@ -2,15 +2,16 @@
 ghost use Rattle.std.specs.Prelude.{◌≡◌, ◌≤◌, IfOk, length};
 ghost use Rattle.std.specs.List.{All};
 ghost use Rattle.ccp_base.specs.Limits.{most_flows};
+ghost use Rattle.agent_loop.specs.LiveBooks.{AreBooksOf};
 ghost use Rattle.scene_core.specs.CasePlans.{AreFlowsFrom};
 ghost use Rattle.scenario_json.specs.Cases.{IsCoded, AreNumberedFrom};
 ghost use Rattle.ccp_run.specs.Attempts.{IsOutputOrRefusal};
 ghost use Rattle.ccp_run.specs.Live.{TellsLive};
 ghost use Rattle.ccp_run.specs.Modes.{Task};
 
-use crate::modes::common::books_text;
+use crate::modes::common::books_output;
 use crate::scene::scene;
-use agent_loop::live;
+use agent_loop::{Books, live};
 use campaign_core::Cases;
 use ccp_base::{Gate, NoMemory, Workers};
 use flow_core::Cell;
@@ -66,8 +67,29 @@ fn run_live<R: Threads + Wait + Sync, G: Gate + Sync>(
     ensures programs { IfOk result (λ output. output.programs ≡ scene.programs) }
     ensures tells { IfOk result (TellsLive wire scene.programs scene.cases) }
 {
-    let table = table(alloc, scene.cases)?;
-    let books = live(rt, alloc, table, datapaths, agents, gate)?;
-    let text = books_text(alloc, wire, &books, &scene.programs)?;
-    Ok(ModeOutput::with_books(text, books, scene.programs))
+    let Scenario {
+        programs,
+        names,
+        cases,
+    } = scene;
+    drop(names);
+    let books = books_of(rt, alloc, datapaths, agents, cases, gate);
+    books_output(alloc, wire, books, programs)
+}
+
+/// The books of the flows of these cases.
+fn books_of<R: Threads + Wait + Sync, G: Gate + Sync>(
+    rt: &R,
+    alloc: Global,
+    datapaths: Workers,
+    agents: Workers,
+    cases: Cases,
+    gate: &G,
+) -> Result<Books, NoMemory>
+    requires few { length cases ≤ most_flows }
+    requires flows { AreFlowsFrom 0 cases }
+    ensures { IfOk result (AreBooksOf cases) }
+{
+    let table = table(alloc, cases)?;
+    live(rt, alloc, table, datapaths, agents, gate)
 }

@@ -8,13 +8,14 @@ ghost use Rattle.campaign_report.specs.AcksText.{acks_text};
 ghost use Rattle.scenario_json.specs.Cases.{case_names, IsCoded, AreNumberedFrom};
 ghost use Rattle.shared_link.specs.SharedLimits.{IsWithin};
 ghost use Rattle.ccp_run.specs.Attempts.{IsOutputOrRefusal};
+ghost use Rattle.ccp_run.specs.Campaign.{case_agents};
 ghost use Rattle.ccp_run.specs.Modes.{Task};
 ghost use Rattle.ccp_run.specs.Shared.{link_line};
 ghost use Rattle.ccp_run.specs.SharedSeries.{shared_acks_text};
 
 use crate::modes::common::agents;
 use crate::modes::shared_scene::{put_link_line, read_shared_scene};
-use crate::modes::shared_series::{Series, run_series};
+use crate::modes::shared_series::{Series, run_series, series_output};
 use campaign_report::{Agents, acks_text};
 use ccp_base::{Bytes, Gate, NoMemory, Workers};
 use run_ending::{ModeOutput, Stop};
@@ -59,10 +60,42 @@ fn run_shared_acks<R: Threads + Wait + Sync, G: Gate + Sync>(
     ensures programs { IfOk result (λ output. output.programs ≡ scene.scene.programs) }
     ensures ran { IfOk result (λ output. output.ran ≡ 0) }
 {
-    let agents = agents(alloc, scene.scene.cases.as_slice())?;
+    match agents(alloc, scene.scene.cases.as_slice()) {
+        Ok(agents) => labelled_acks(rt, alloc, workers, scene, &agents, gate),
+        Err(error) => {
+            drop(scene);
+            Err(error)
+        }
+    }
+}
+
+/// The same, of flows that have these agents.
+fn labelled_acks<R: Threads + Wait + Sync, G: Gate + Sync>(
+    rt: &R,
+    alloc: Global,
+    workers: Workers,
+    scene: SharedScene,
+    agents: &Agents,
+    gate: &G,
+) -> Result<ModeOutput, NoMemory>
+    requires names { scene.scene.names ≡ case_names scene.scene.cases }
+    requires agents { agents.now ≡ case_agents scene.scene.cases }
+    requires few { length scene.scene.cases ≤ most_flows }
+    requires numbered { AreNumberedFrom 0 scene.scene.programs }
+    requires coded { All (IsCoded scene.scene.programs) scene.scene.cases }
+    requires flows { AreFlowsFrom 0 scene.scene.cases }
+    requires link { IsWithin scene.link }
+    requires links { map link_at_once scene.link.flows ≡ map flow_link_of (map plan_of scene.scene.cases) }
+    requires rounds { scene.rounds ≤ most_rounds }
+    ensures text { IfOk result (λ output. output.text
+        ≡ shared_acks_text scene.scene.programs scene.scene.cases scene.link scene.rounds) }
+    ensures books { IfOk result (λ output. output.books ≡ []) }
+    ensures programs { IfOk result (λ output. output.programs ≡ scene.scene.programs) }
+    ensures ran { IfOk result (λ output. output.ran ≡ 0) }
+{
     let series = run_series(rt, alloc, workers, scene, gate)?;
-    let text = lines_text(alloc, &agents, &series)?;
-    Ok(ModeOutput::with_programs(alloc, text, series.programs))
+    let text = lines_text(alloc, agents, &series);
+    series_output(alloc, text, series)
 }
 
 /// The lines of the flows' acknowledgements, and the link's line.

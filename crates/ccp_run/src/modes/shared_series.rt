@@ -1,5 +1,5 @@
 //! What `shared-timeline` and `shared-acks` share: the run of the flows on a link with their histories.
-ghost use Rattle.std.specs.Prelude.{◌≡◌, ◌≤◌, IfOk, length, map};
+ghost use Rattle.std.specs.Prelude.{◌≡◌, ◌≤◌, [], Ok, IfOk, length, map};
 ghost use Rattle.std.specs.List.{All};
 ghost use Rattle.ccp_base.specs.Limits.{most_flows, most_rounds};
 ghost use Rattle.scene_core.specs.CasePlans.{plan_of, AreFlowsFrom, flow_link_of, link_at_once};
@@ -15,10 +15,12 @@ ghost use Rattle.shared_run.specs.SharedHistory.{shared_counts};
 ghost use Rattle.shared_run.specs.WholeRun.{IsRunOf};
 ghost use Rattle.ccp_run.specs.SharedSeries.{core_parts, source_flows};
 
+use crate::modes::common::text_output;
 use agent_loop::Books;
 use campaign_core::{CaseAcks, Cases};
-use ccp_base::{Gate, Names, NoMemory, Workers};
+use ccp_base::{Bytes, Gate, Names, NoMemory, Workers};
 use reg_compiler::Builts;
+use run_ending::ModeOutput;
 use scenario_json::{Scenario, SharedScene};
 use shared_link::{Counts, SharedCase};
 use shared_run::{Givens, SharedRun, shared};
@@ -130,4 +132,26 @@ fn histories_of(alloc: Global, givens: Givens) -> Result<Histories, NoMemory>
         acks.push(given.acks)?;
     }
     Ok(Histories { books, acks })
+}
+
+/// The output of a text of a series, or none if there was no memory for it. It keeps the programs.
+pub fn series_output(
+    alloc: Global,
+    text: Result<Bytes, NoMemory>,
+    series: Series,
+) -> Result<ModeOutput, NoMemory>
+    ensures text { IfOk result (λ output. text ≡ Ok output.text) }
+    ensures books { IfOk result (λ output. output.books ≡ []) }
+    ensures programs { IfOk result (λ output. output.programs ≡ series.programs) }
+    ensures ran { IfOk result (λ output. output.ran ≡ 0) }
+{
+    let Series {
+        programs,
+        names,
+        histories,
+        counts: _,
+    } = series;
+    drop(names);
+    drop(histories);
+    text_output(alloc, text, programs)
 }

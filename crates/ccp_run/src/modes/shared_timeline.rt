@@ -15,7 +15,7 @@ ghost use Rattle.ccp_run.specs.SharedSeries.{shared_timeline_text};
 
 use crate::modes::common::books_text;
 use crate::modes::shared_scene::{put_link_line, read_shared_scene};
-use crate::modes::shared_series::{Series, run_series};
+use crate::modes::shared_series::{Series, run_series, series_output};
 use ccp_base::{Bytes, Gate, NoMemory, Workers};
 use run_ending::{ModeOutput, Stop};
 use scenario_json::SharedScene;
@@ -61,8 +61,8 @@ fn run_shared_timeline<R: Threads + Wait + Sync, G: Gate + Sync>(
     ensures ran { IfOk result (λ output. output.ran ≡ 0) }
 {
     let series = run_series(rt, alloc, workers, scene, gate)?;
-    let text = parts_text(alloc, wire, &series)?;
-    Ok(ModeOutput::with_programs(alloc, text, series.programs))
+    let text = parts_text(alloc, wire, &series);
+    series_output(alloc, text, series)
 }
 
 /// The flows' parts, after the programs' frames if `wire` asks for them, and the link's line.

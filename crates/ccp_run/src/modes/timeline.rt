@@ -7,7 +7,7 @@ ghost use Rattle.ccp_run.specs.Attempts.{IsOutputOrRefusal};
 ghost use Rattle.ccp_run.specs.Timeline.{TellsTimeline};
 ghost use Rattle.ccp_run.specs.Modes.{Task};
 
-use crate::modes::common::books_text;
+use crate::modes::common::books_output;
 use crate::scene::scene;
 use campaign_gate::calls::books;
 use ccp_base::{Gate, NoMemory, Workers};
@@ -48,7 +48,12 @@ fn run_timeline<R: Threads + Wait + Sync, G: Gate + Sync>(
     ensures programs { IfOk result (λ output. output.programs ≡ scene.programs) }
     ensures tells { IfOk result (TellsTimeline wire scene.programs scene.cases) }
 {
-    let books = books(rt, alloc, scene.cases, workers, gate)?;
-    let text = books_text(alloc, wire, &books, &scene.programs)?;
-    Ok(ModeOutput::with_books(text, books, scene.programs))
+    let Scenario {
+        programs,
+        names,
+        cases,
+    } = scene;
+    drop(names);
+    let books = books(rt, alloc, cases, workers, gate);
+    books_output(alloc, wire, books, programs)
 }
