@@ -5,7 +5,7 @@ use Rattle.std.proofs.lemmas.List.{length-map}
 use Rattle.std.specs.Option.{option_or}
 use Rattle.ccp_base.specs.Limits.{most_fields, most_controls, most_blocks, most_instrs, most_short_fields}
 use Rattle.portus_core.specs.ProgramForm.{form_of}
-use Rattle.reg_code.specs.AcceptedCode.{IsAccepted, refusal_where}
+use Rattle.reg_code.specs.AcceptedCode.{refusal_where}
 use Rattle.reg_code.specs.declared.code.Code.{Code}
 use Rattle.reg_code.specs.declared.rule.Rule.{Rule}
 use Rattle.reg_compiler.specs.Simulation.{register_start}

@@ -1,5 +1,5 @@
 -- The frames of an input after a first frame that is written before any is read.
-use Rattle.std.proofs.Common.{◌≡◌, inl, inr, ◌∙◌, ℕ, ◌+◌, ◌≤◌, Some, None, List, [], ◌++◌, length, take, rules, arith, ap, sym, subst, append_assoc, append-nil, length-append}
+use Rattle.std.proofs.Common.{◌≡◌, inl, inr, ◌∙◌, ℕ, ◌+◌, ◌≤◌, Some, None, List, [], ◌++◌, length, take, arith, ap, sym, subst, append_assoc, append-nil, length-append}
 use Rattle.std.proofs.Math.Seq.{take-append-add}
 use Rattle.std.proofs.lemmas.List.{take-append-le}
 use Rattle.ccp_base.specs.Outside.{Known, Rose, Takes, Appends, AppendsPrefix, Appends-append}
@@ -8,6 +8,7 @@ use Rattle.feed_core.specs.declared.ending.FeedEnd.TheVariants as ends
 use Rattle.feed_core.specs.Answering.{Answering, after}
 use Rattle.feed_core.specs.FeedEnds.{Stream, stream, AreHandedOn, AnswersInput, IsFed, StaysFinished, FeedFailsToWrite}
 use Rattle.feed_core.specs.FeedStops.{StopsAnswer}
+use Rattle.feed_core.proofs.StreamEnds.{rose-late}
 use Rattle.feed_core.specs.declared.answering.Unanswered.{Unanswered}
 use Rattle.feed_core.specs.declared.answering.Unanswered.TheVariants as unanswered
 use Rattle.ccp_run.specs.DriveInputs.{beginning_with}
@@ -19,10 +20,6 @@ appends-nothing (Some written) new same = same ∙ ap Some (sym (append-nil writ
 pub takes-nothing : (old new : Known) → new ≡ old → Takes old new []
 takes-nothing old None same = sym same
 takes-nothing old (Some left) same = sym same
-
--- a count that rose late, or early
-pub rose-late : (before middle now : ℕ) → before ≤ middle → middle ≤ now → Rose middle now → Rose before now
-rose-late before middle now first grown rose = search rules
 
 -- what was handed on, and then the rest
 pub both-handed : (first next : List ℕ) (was is : Type 0) → AreHandedOn first was → (was → is) → AreHandedOn next is → AreHandedOn (first ++ next) is
@@ -70,7 +67,7 @@ module _ {S : Type 0} (a : Answering S) (first before : List ℕ) (Lacks : List 
   fed-first ends.ReadFailed stays f =
       record { bytes = f.bytes; answered = answers-first f.bytes stays f.answered; within = f.within; rose = f.rose; goes_on = f.goes_on }
   fed-first ends.WriteFailed stays f =
-      record { bytes = f.bytes; taken = f.taken; within = f.within; rose = rose-late was middle now grown grows f.rose; front = prefix-after old mid new first (a.written (before ++ f.bytes)) wrote f.front }
+      record { bytes = f.bytes; taken = f.taken; within = f.within; rose = rose-late was middle now grown f.rose grows; front = prefix-after old mid new first (a.written (before ++ f.bytes)) wrote f.front }
   fed-first (ends.NoMemory _) stays f = record {
     bytes = f.bytes;
     front = f.front;

@@ -7,6 +7,7 @@ use Rattle.feed_core.specs.declared.ending.FeedEnd.{FeedEnd}
 use Rattle.feed_core.specs.declared.ending.FeedEnd.TheVariants as ends
 use Rattle.feed_core.specs.Answering.{Answering, after}
 use Rattle.feed_core.specs.FeedEnds.{Stream, stream, AreHandedOn, AnswersInput, AllowsAnswered, MayGoOn}
+use Rattle.feed_core.proofs.StreamEnds.{rose-late}
 use Rattle.reg_compiler.specs.declared.built.Built.{Built}
 use Rattle.reg_compiler.specs.Sources.{sources_of}
 use Rattle.scene_core.specs.CasePlans.{plan_of}
@@ -26,7 +27,7 @@ use Rattle.ccp_run.specs.declared.modes.drive.Opened.{Opened}
 use Rattle.ccp_run.specs.Drive.{IsDriven}
 use Rattle.ccp_run.specs.DriveEnds.{AnswersDrive, AllowsDrive, IsDriveEnd, OpensDrive, StopsOpening, IsSessionEnd, end_at, end_in}
 use Rattle.ccp_run.specs.DriveInputs.{divided_at, beginning_of, codes_from, begun, driven_by, driving, written_in, drive_written, end_refusal, refusal_in, drive_refusal, IsOpenAt, IsOpenDrive, flows_in, driven_flows}
-use Rattle.ccp_run.proofs.DriveFrames.{appends-nothing, rose-late}
+use Rattle.ccp_run.proofs.DriveFrames.{appends-nothing}
 use Rattle.ccp_run.proofs.DriveFronts.{divided-there, head-of}
 use Rattle.ccp_run.proofs.DriveSessions.{IsSessionOf, opening-holds, frames-hold}
 use Rattle.ccp_run.proofs.PlannedLemmas.{planned_all}
@@ -223,7 +224,7 @@ module _ (source mid : Known) (rb rm : ℕ) (rest : List ℕ) (opened : Opened) 
       bytes = o.bytes ++ f.bytes;
       answered = answers f.bytes f.answered;
       within = within-none f.bytes f.within;
-      rose = rose-late rb rm rn grown grows f.rose;
+      rose = rose-late rb rm rn grown f.rose grows;
       goes_on = opens f.bytes f.goes_on;
     }
     drive-ends ends.WriteFailed f = record {

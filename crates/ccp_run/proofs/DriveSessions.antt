@@ -11,14 +11,12 @@ use Rattle.ccp_messages.specs.Decoding.{Found, decoded_of}
 use Rattle.reply_frames.specs.declared.outline.Version.{Version}
 use Rattle.feed_core.specs.Feed.{Answer}
 use Rattle.feed_core.specs.FeedBytes.{AnswerRule, fed, fed_on, frames_from}
-use Rattle.campaign_core.specs.CampaignWord.{next_of}
-use Rattle.flow_core.specs.declared.letter.Letter.{Letter}
-use Rattle.flow_core.specs.declared.letter.Letter.TheVariants.{A, T, C}
 use Rattle.driven_flow.specs.declared.case.DrivenCase.{DrivenCase}
 use Rattle.driven_flow.specs.declared.refusal.Refusal.{Refusal}
-use Rattle.driven_flow.specs.Driven.{Codes, DrivenState, Given, flow_by, world_by, left_of}
-use Rattle.driven_flow.specs.Session.{SessionState, opening, hear, heard, heard_as, turned, turned_by, gone_on, stopped, stopped_by, reported, refusal, with_ended, after_one, then_on, run_for, run_on}
+use Rattle.driven_flow.specs.Driven.{Codes, DrivenState, Given, left_of}
+use Rattle.driven_flow.specs.Session.{SessionState, opening, hear, heard, heard_as, turned, turned_by, gone_on, stopped, stopped_by, reported, refusal, with_ended, run_on}
 use Rattle.driven_flow.specs.SessionHolds.{HasPrograms}
+use Rattle.driven_flow.proofs.SessionLawLemmas.{run-own}
 
 -- ---- what frames keep
 
@@ -58,16 +56,6 @@ pub record IsSessionOf (codes : Codes) (count : ℕ) (s : SessionState) : Type 0
 pub opening-holds : (codes : Codes) (cases : List DrivenCase) → IsSessionOf codes (length cases) (opening codes cases)
 opening-holds codes cases = record { programs = refl; flow = tt; ended = All-nil (HasCodes codes); counted = omega arith }
 
-keeps-programs : (most : ℕ) (given : Given) (flow : DrivenState) → (run_for most given flow).programs ≡ flow.programs
-keeps-programs zero given flow = refl
-keeps-programs (suc most) given flow = on (λ flow. keeps-programs most given flow) (next_of (flow_by flow) flow.case.lag (world_by flow))
-  where
-    on : ((flow : DrivenState) → (run_for most given flow).programs ≡ flow.programs) → (next : Option Letter) → (then_on next (after_one given flow) (run_for most given) flow).programs ≡ flow.programs
-    on again None = refl
-    on again (Some A) = again (after_one given flow A)
-    on again (Some C) = again (after_one given flow C)
-    on again (Some T) = refl
-
 module _ (codes : Codes) (count : ℕ) where
   abbrev pub Holds : SessionState → Type 0
   Holds s = IsSessionOf codes count s
@@ -98,7 +86,7 @@ module _ (codes : Codes) (count : ℕ) where
           let counted = h.counted in
           record {
             programs = h.programs;
-            flow = keeps-programs (left_of flow) given flow ∙ own;
+            flow = run-own (left_of flow) given flow ∙ own;
             ended = h.ended;
             counted = omega (arith, counted, ap in_flow is);
           }

@@ -1,6 +1,6 @@
 -- The lemmas of fold_run, a file a topic.
 mod MachineMeans
-mod FoldSteps
+pub mod FoldSteps
 mod FirstLine
 mod FirstWord
 mod SeparatedLemmas

@@ -1,10 +1,10 @@
 -- `feed` answers about a program what `fold` prints.
-use Rattle.std.proofs.Common.{◌≡◌, ◌∙◌, ℕ, zero, suc, ◌+◌, ◌-◌, ◌<◌, ◌≤◌, nat_lt, Bool, true, false, cond, Option, Some, None, option_map, unwrap_or, Ok, List, [], ◌∷◌, ◌++◌, length, map, replicate, drop, get_or, slice_get, slice_set, refl, ap, sym, subst, arith, append_assoc, length-append, length-set}
+use Rattle.std.proofs.Common.{◌≡◌, ◌∙◌, ℕ, zero, suc, ◌+◌, ◌-◌, ◌<◌, ◌≤◌, nat_lt, Bool, true, false, cond, Option, Some, None, option_map, unwrap_or, Ok, List, [], ◌∷◌, ◌++◌, length, map, replicate, drop, slice_get, slice_set, refl, ap, sym, subst, arith, append_assoc, length-append, length-set}
 use Rattle.std.specs.Option.{ForSome, option_or}
 use Rattle.std.specs.List.{AllByRecursion}
 use Rattle.std.proofs.Math.Seq.{drop-append_seam}
 use Rattle.std.proofs.lemmas.Bool.{lt-ltb, le-ltb}
-use Rattle.std.proofs.lemmas.List.{take_all, map-append, length-map, get_or-set_same, get_or-drop, length-drop, drop-drop}
+use Rattle.std.proofs.lemmas.List.{take_all, map-append, length-map, get_or-set_same}
 use Rattle.std.proofs.lemmas.List.Elements.{All-replicate, recursion_from_All}
 use Rattle.std.proofs.lemmas.Option.{none-some, same_Some, slice_get-get_or, slice_get_within}
 use Rattle.std.proofs.lemmas.Result.{IfOk-at_ok}
@@ -50,6 +50,7 @@ use Rattle.fold_machine.specs.MachineState.{MachineState}
 use Rattle.flow_core.specs.Readings.{outcome_of}
 use Rattle.flow_core.proofs.SimulatedEpochs.{outcome_placed, heard-simulated, declared-simulated}
 use Rattle.flow_core.proofs.ValueLemmas.{values-alike}
+use Rattle.fold_run.proofs.FoldSteps.{next-item, items-after}
 use Rattle.fold_run.specs.Fold.{IsFoldNotice, fold_reporter, fold_start, told_fault, with_room}
 use Rattle.feed_core.specs.Answering.{end_from}
 use Rattle.feed_core.specs.declared.flow.Flow.{Flow}
@@ -60,16 +61,6 @@ use Rattle.feed_core.proofs.FrameLawLemmas.{fed-fuel}
 use Rattle.mode_laws.specs.FeedLaws.{Sent, answers_to, deployed, fault_of, frames_of, listed, measure_of, Deployment, FeedAnswersAsFold, FeedAnswersFrames, StartsAsFold, StartsAtWindowZero}
 
 -- ---- lists
-
-next-item : {X : Type 0} (n : ℕ) (xs : List X) (x : X) (rest : List X) → x ∷ rest ≡ drop n xs → slice_get xs n ≡ Some x
-next-item n xs x rest is =
-    let within : n < length xs = omega (arith, ap length is, length-drop n xs) in
-    let at : n ≡ n + 0 = omega arith in
-    let item : get_or xs n x ≡ x = ap (λ i. get_or xs i x) at ∙ sym (get_or-drop n xs 0 x) ∙ ap (λ ys. get_or ys 0 x) (sym is) in
-    slice_get-get_or xs n x within ∙ ap (λ y. Some y) item
-
-items-after : {X : Type 0} (n : ℕ) (xs : List X) (x : X) (rest : List X) → x ∷ rest ≡ drop n xs → rest ≡ drop (n + 1) xs
-items-after n xs x rest is = ap (drop 1) is ∙ drop-drop 1 n xs
 
 -- what is put at a place is there
 put-there : {X : Type 0} (xs : List (Option X)) (n : ℕ) (x : X) → n < length xs → there (slice_set xs n (Some x)) n ≡ Some x
