@@ -432,7 +432,8 @@ class Maker:
 
     def __init__(self, room: Path, program: Path | None = None) -> None:
         self.room, self.top = room, room / "ccp"
-        subprocess.run(["git", "clone", "--quiet", str(REPOSITORY), str(self.top)], check=True)
+        # without the tags of this checkout: what is made here are tags too
+        subprocess.run(["git", "clone", "--quiet", "--no-tags", str(REPOSITORY), str(self.top)], check=True)
         for name, value in (("user.name", "A Maintainer"), ("user.email", "maintainer@example.org")):
             self.git("config", name, value)
         shutil.copy(REPOSITORY / "tools/release", self.top / "tools/release")
