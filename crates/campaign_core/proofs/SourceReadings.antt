@@ -33,7 +33,7 @@ some-placed place out = some-mapped (map_taken place) out
 pub none-placed : (place : Placing) (out : Option (Taken ℕ)) → is_none out ≡ is_none (option_map (map_taken place) out)
 none-placed place out = none-mapped (map_taken place) out
 
--- what is told counts the same, whatever a fault's site is
+-- a report or a failure counts the same, whether a fault's site is given in the code or in the source
 told-placed : (codes : Flow ℕ) (sources : Flow Place) (place : Placing) (told : Content ℕ)
     → reports_told (told_as codes told) ≡ reports_told (told_as sources (map_content place told))
 told-placed codes sources place (of_report report) = refl

@@ -75,7 +75,7 @@ bad_is bytes field left e =
           cc;
     }
 
--- a bad byte that so many bytes are left from is at the place before which all others stand
+-- where `left` bytes are left from the bad byte on, its place is the length of what stands before it
 pub bad_in_at : (bytes : List ℕ) (field : BadKind) (left place : ℕ) → frame_at bytes ≡ Err (stops.Bad field left) → place ≡ length bytes - left → IsBadIn bytes field place
 bad_in_at bytes field left place read at =
     let r = exact-frame.bad bytes field left read in

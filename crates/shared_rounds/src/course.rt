@@ -5,8 +5,8 @@ ghost use Rattle.shared_link.specs.declared.round.Ask.{Ask};
 ghost use Rattle.shared_link.specs.declared.shared_case.SharedCase.{SharedCase};
 ghost use Rattle.shared_rounds.specs.Rounds.{acks_in_round};
 
-/// The link of a run, how many flows it has, and what they ask the link for after so many rounds. By them a type says
-/// what a value is of a run: what comes from another thread is known by its type alone.
+/// The link of a run, how many flows it has, and what they ask the link for after a given number of rounds. A type that
+/// names a course says by it which run its values belong to: what comes from another thread is known by its type alone.
 pub trait Course {
     ghost link: { SharedCase };
 

@@ -22,7 +22,7 @@ impl CaseCourse for Brand {
     ghost cases = { [] };
 }
 
-/// The course of a run of these cases: what their flows ask the link for after so many rounds.
+/// The course of a run of these cases: what their flows ask the link for after a given number of rounds.
 #[derive(Drop)]
 pub(crate) struct CourseOf<C: CaseCourse> {
     of: PhantomData<C>,

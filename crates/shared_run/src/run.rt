@@ -198,8 +198,8 @@ fn open_run<C: CaseCourse, F: GivenFlow>(
     Ok(OpenRun { link, flows, bells })
 }
 
-/// How many of the workers a run of so many flows has. Those from the number of flows on would have no flow, and each
-/// would still cost some time in every round. A run without flows has one worker.
+/// How many of the workers a run of `flows` flows has: at most one for each flow, since a worker without a flow would
+/// still cost time in every round, and at least one.
 fn workers_of(workers: Workers, flows: usize) -> usize
     ensures { result ≡ max (min workers.count flows) 1 }
 {
