@@ -148,7 +148,7 @@ def add_portus(parser: argparse._ActionsContainer) -> None:
 
 def deprecated(parser: argparse._ActionsContainer, old: str, new: str) -> None:
     """Accepts the option `old` for `new`, which the parser has already, with a warning on standard error. It isn't in
-    the help, and goes with the next version."""
+    the help, and goes with version 2.0."""
     target = parser._option_string_actions[new]
 
     class Deprecated(type(target)):  # type: ignore[misc]
