@@ -1,24 +1,11 @@
 """The runs of rows/ that read an input of a mode: each with its place, the mode, the input, and the refusal or None."""
 from __future__ import annotations
 
-import importlib.machinery
-import importlib.util
 import json
 from pathlib import Path
-from types import ModuleType
 from typing import Any, Container, Dict, Iterator, Optional, Tuple
 
-from support import REPOSITORY
-
-
-def loaded(name: str) -> ModuleType:
-    """A script of tools/ as a module."""
-    loader = importlib.machinery.SourceFileLoader("script_" + name, str(REPOSITORY / "tools" / name))
-    spec = importlib.util.spec_from_loader(loader.name, loader)
-    assert spec
-    module = importlib.util.module_from_spec(spec)
-    loader.exec_module(module)
-    return module
+from support import REPOSITORY, loaded
 
 
 ROWS = loaded("rows")

@@ -2,12 +2,15 @@
 from __future__ import annotations
 
 import importlib
+import importlib.machinery
+import importlib.util
 import os
 import shlex
 import stat
 import subprocess
 import sys
 from pathlib import Path
+from types import ModuleType
 from typing import Any, Dict, Iterable, NamedTuple, Sequence
 
 import forked
@@ -35,6 +38,18 @@ def require(name: str) -> Any:
         if os.environ.get("CCP_STRICT") == "1":
             pytest.fail("%s: tools/install --tests" % reason, pytrace=False)
         pytest.skip(reason, allow_module_level=True)
+
+
+def loaded(name: str) -> ModuleType:
+    """A script of tools/ as a module of its own."""
+    loader = importlib.machinery.SourceFileLoader("script_" + name, str(REPOSITORY / "tools" / name))
+    spec = importlib.util.spec_from_loader(loader.name, loader)
+    assert spec
+    module = importlib.util.module_from_spec(spec)
+    # dataclasses look there for the names of their types
+    sys.modules[loader.name] = module
+    loader.exec_module(module)
+    return module
 
 
 class Ran(NamedTuple):

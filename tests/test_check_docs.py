@@ -1,23 +1,10 @@
 """Tests of tools/check-docs: what of a page it runs and writes, what it leaves out, and how it counts the recipes."""
 import contextlib
-import importlib.machinery
-import importlib.util
 import io
 import re
-import sys
 
 import pytest
-from support import REPOSITORY
-
-
-def check_docs():
-    """tools/check-docs as a module."""
-    loader = importlib.machinery.SourceFileLoader("script_check_docs", str(REPOSITORY / "tools" / "check-docs"))
-    module = importlib.util.module_from_spec(importlib.util.spec_from_loader(loader.name, loader))
-    # its dataclasses look there for the names of their types
-    sys.modules[loader.name] = module
-    loader.exec_module(module)
-    return module
+from support import REPOSITORY, loaded
 
 
 def checked(script, *lines):
@@ -29,14 +16,14 @@ def checked(script, *lines):
 
 
 def test_a_block_is_run():
-    script = check_docs()
+    script = loaded("check-docs")
     assert checked(script, "$ echo one", "one", "$ cat <<'END'", "two", "END", "two") == ("", 0), "as it prints"
     printed, wrong = checked(script, "$ echo one", "two")
     assert wrong == 1 and printed == "page.md:1: prints\none\n\n", printed
 
 
 def test_a_block_whose_module_is_missing_is_left_out():
-    script = check_docs()
+    script = loaded("check-docs")
     script.MODULES, script.IS_STRICT = ("no_such_module", "json"), False
     printed, wrong = checked(script, "$ python3 - <<'END'", "import no_such_module", "END", "text")
     assert (printed, wrong) == ("page.md:1: skipped: no_such_module isn't installed\n", 0), printed
@@ -47,14 +34,14 @@ def test_a_block_whose_module_is_missing_is_left_out():
 
 
 def test_a_missing_module_is_a_difference_where_nothing_may_be_missing():
-    script = check_docs()
+    script = loaded("check-docs")
     script.MODULES, script.IS_STRICT = ("no_such_module",), True
     printed, wrong = checked(script, "$ python3 - <<'END'", "import no_such_module", "END", "text")
     assert (printed, wrong) == ("page.md:1: no_such_module isn't installed\n", 1)
 
 
 def test_the_tables_are_those_of_the_definitions():
-    script = check_docs()
+    script = loaded("check-docs")
     findings = script.Findings()
     script.check_tables(findings)
     assert findings.wrong == 0 and findings.checked["modes"] == len(script.MODES)
@@ -65,7 +52,7 @@ def test_the_tables_are_those_of_the_definitions():
 
 def test_documents_are_written_again_from_the_tables():
     """What a document lacks of modes, options and columns comes back, and nothing else changes."""
-    script = check_docs()
+    script = loaded("check-docs")
     texts = {path: (REPOSITORY / path).read_text(encoding="utf-8") for path in script.WITH_TABLES}
     lacks = [
         ("docs/ccp.1", r"\.TP\n\.B soak\n.*\n", ""),
@@ -81,7 +68,7 @@ def test_documents_are_written_again_from_the_tables():
 
 def test_a_row_of_a_mode_is_written_into_readme():
     """A row that differs from the tables is made anew, with an example and without links; all others stay."""
-    script = check_docs()
+    script = loaded("check-docs")
     text = (REPOSITORY / "README.md").read_text(encoding="utf-8")
     rows = [row for row, *_ in script.rows_of_readme(text)]
     mode = script.MODES[script.rows_of_readme(text)[-1][1]]
@@ -92,7 +79,7 @@ def test_a_row_of_a_mode_is_written_into_readme():
 
 
 def test_outputs_are_written_into_a_document(tmp_path):
-    script = check_docs()
+    script = loaded("check-docs")
     script.TOP = str(tmp_path)
     page = "text\n\n```\n$ echo one; echo two\nold\n$ cat <<'END'\nthree\nEND\n```\n\n```\n$ echo four\nfour\n```\n"
     (tmp_path / "page.md").write_text(page, encoding="utf-8")
@@ -135,7 +122,7 @@ def found_in(script, text):
 
 
 def test_the_files_of_a_recipe_are_counted():
-    script = check_docs()
+    script = loaded("check-docs")
     script.MOST_FILES = {"A change": 3}
     assert found_in(script, RECIPE) == ""
     (recipe,) = script.recipes(RECIPE.split("\n"))
@@ -156,19 +143,19 @@ def test_the_files_of_a_recipe_are_counted():
     ],
 )
 def test_a_recipe_that_differs_from_its_table(old, new, line):
-    script = check_docs()
+    script = loaded("check-docs")
     script.MOST_FILES = {"A change": 3}
     assert line in found_in(script, RECIPE.replace(old, new)).split("\n")
 
 
 def test_a_recipe_has_a_limit():
-    script = check_docs()
+    script = loaded("check-docs")
     script.MOST_FILES = {"A change": 2}
     assert found_in(script, RECIPE) == "page:1: A change: 3 files are more than 2\n"
 
 
 def test_the_recipes_of_the_page():
-    script = check_docs()
+    script = loaded("check-docs")
     text = (REPOSITORY / script.CHANGING).read_text(encoding="utf-8")
     assert found_in(script, text) == ""
     assert {recipe.title for recipe in script.recipes(text.split("\n"))} == set(script.MOST_FILES)
