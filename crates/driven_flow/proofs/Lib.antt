@@ -1,6 +1,6 @@
 -- The lemmas of driven_flow, a file a topic.
 pub mod DrivenWordLemmas
-pub mod PartLemmas
+pub mod StepLemmas
 pub mod StateLemmas
 pub mod DrivenLiftLemmas
 pub mod DrivenTextLemmas

@@ -20,7 +20,7 @@ use Rattle.link_model.specs.Standing.{Standing, LinkState, Stands}
 use Rattle.campaign_core.specs.declared.sums.Sums.{Sums}
 use Rattle.campaign_core.specs.CampaignRow.{sums_of, sums_with, AreRoomy}
 use Rattle.campaign_core.proofs.SumLemmas.{sums-append, calls-run, roomy-run}
-use Rattle.flow_core.specs.declared.bare.Issued.{Issued}
+use Rattle.flow_core.specs.declared.running.Issued.{Issued}
 use Rattle.flow_core.specs.declared.book.EpochLine.{EpochLine}
 use Rattle.flow_core.specs.declared.book.TicketLine.{TicketLine}
 use Rattle.flow_core.specs.declared.letter.Letter.{Letter}
@@ -32,7 +32,7 @@ use Rattle.flow_core.specs.LiveText.{reports_told, report_count}
 use Rattle.flow_core.specs.Readings.{Flow}
 use Rattle.flow_lists.specs.ReservedLists.{ReservedState}
 use Rattle.flow_core.specs.States.{issued_as, some_count}
-use Rattle.flow_core.specs.Summaries.{Summary, summary, notice_after, outcome_at, step_ack, step_take, may_make}
+use Rattle.flow_core.specs.Summaries.{Summary, on_running, summary, outcome_at, step_ack, step_take, may_make}
 use Rattle.flow_core.specs.World.{World, Content, Failure, Taken, Answered, track_of, failures_met, after_ack, takeable, with_taken, after_take, notice_of, told_as}
 use Rattle.flow_core.specs.Words.{Giving, from_link}
 use Rattle.flow_core.proofs.LeftLemmas.{left-ack, left-take}
@@ -40,10 +40,11 @@ use Rattle.flow_core.proofs.SummaryLemmas.{count-append, summary-ack, summary-ta
 use Rattle.flow_core.proofs.WordLemmas.{take-keeps}
 use Rattle.driven_flow.specs.declared.case.DrivenCase.{DrivenCase}
 use Rattle.driven_flow.specs.declared.journal.Journal.{Journal}
-use Rattle.driven_flow.specs.declared.parts.Parts.{Parts}
+use Rattle.flow_core.specs.declared.running.Running.{Running}
+use Rattle.flow_core.specs.Runnings.{out_by, step_values, step_closed, notice_after}
 use Rattle.driven_flow.specs.declared.state.Opened.{Opened}
 use Rattle.driven_flow.specs.Driven.{Given, DrivenState, left_of, begun, with_values_given, with_answer, after_given, answered_by, world_from, peak_from, flow_by, world_by, peak_by, after_next, MayMake, told_out}
-use Rattle.driven_flow.specs.DrivenParts.{summary_by, IsParts, step_values, step_closed, step_out, step_given}
+use Rattle.driven_flow.specs.DrivenSteps.{summary_by, IsDrivenBy, step_out, step_given}
 use Rattle.driven_flow.specs.DrivenJournals.{with_some, journal_ack, journal_take, journal_answer, new_notice, Begins, Records}
 use Rattle.driven_flow.specs.DrivenStates.{answers_in, with_letter, with_given, line_out, line_begun, IsOpened, IsDriven}
 use Rattle.driven_flow.proofs.DrivenWordLemmas.{slice_get-last, answers-append, values-tickets, world-append, peak-append, world-more, peak-more}
@@ -52,7 +53,7 @@ use Rattle.driven_flow.proofs.DrivenWordLemmas.{slice_get-last, answers-append, 
 
 module _ {X : Type 0} (flow : Flow X) where
   summary-values : (program : Option ℕ) (values : List Pair) (w : World X)
-      → summary flow (with_values_given flow program values w) ≡ step_values flow program values (summary flow w)
+      → summary flow (with_values_given flow program values w) ≡ on_running (step_values flow program values) (summary flow w)
   summary-values None [] w = refl
   summary-values None (pair ∷ rest) w =
       let next = with_values_given flow None (pair ∷ rest) w in
@@ -71,7 +72,7 @@ module _ {X : Type 0} (flow : Flow X) where
   abbrev pub shut : Taken X → World X → World X
   shut ticket w = record w { out = None; answered = w.answered ++ answered_now ticket w ∷ [] }
 
-  summary-shut : (ticket : Taken X) (w : World X) → summary flow (shut ticket w) ≡ step_closed (issued_as flow ticket) (summary flow w)
+  summary-shut : (ticket : Taken X) (w : World X) → summary flow (shut ticket w) ≡ on_running (step_closed (told_as flow ticket.told)) (summary flow w)
   summary-shut ticket w =
       let line = answered_now ticket w in
       let told : report_count (map (ticket_line flow) (w.answered ++ line ∷ []))
@@ -84,7 +85,7 @@ module _ {X : Type 0} (flow : Flow X) where
       → summary flow (with_answer flow given out w) ≡ step_out flow given (option_map (issued_as flow) out) (summary flow w)
   summary-answered given None w = refl
   summary-answered given (Some ticket) w =
-      summary-values given.program given.values (shut ticket w) ∙ ap (step_values flow given.program given.values) (summary-shut ticket w)
+      summary-values given.program given.values (shut ticket w) ∙ ap (on_running (step_values flow given.program given.values)) (summary-shut ticket w)
 
   pub summary-given : (given : Given) (w : World X) → summary flow (after_given flow given w) ≡ step_given flow given (summary flow w)
   summary-given given w = summary-answered given w.out w
@@ -133,7 +134,7 @@ module _ {X : Type 0} (flow : Flow X) where
 
 module _ (flow : Flow ℕ) where
   faults-met : (program epoch at : ℕ) (ack : Ack) (met : Outcome (FaultKind × ℕ) × Env) (untold : Option Notice) (list : ReservedState Notice)
-      → (with_some (new_notice (acked_as met.0) (notice_after flow (failures_met program epoch at ack met) untold)) list).items
+      → (with_some (new_notice (acked_as met.0) (notice_after flow.number flow.index (failures_met program epoch at ack met) untold)) list).items
       ≡ list.items ++ map (notice_of flow) (failures_met program epoch at ack met)
   faults-met program epoch at ack (quiet, env) untold list = sym (append-nil list.items)
   faults-met program epoch at ack (reported fields, env) untold list = sym (append-nil list.items)
@@ -208,8 +209,8 @@ module _ (flow : Flow ℕ) where
 -- ---- the first change
 
 pub driven-open : (programs : Codes) (case : DrivenCase) (program : ℕ) (values : List Pair) (opened : Opened) → IsOpened programs case program values opened
-    → (sums : Sums) (peak : ℕ) → sums ≡ sums_of [] → peak ≡ opened.parts.machine.kept.cwnd
-    → IsDriven (record { case = case; programs = programs; program = program; values = values; answers = []; word = [] }) opened.parts opened.link opened.journal sums peak
+    → (sums : Sums) (peak : ℕ) → sums ≡ sums_of [] → peak ≡ opened.running.machine.kept.cwnd
+    → IsDriven (record { case = case; programs = programs; program = program; values = values; answers = []; word = [] }) opened.running opened.link opened.journal sums peak
 driven-open programs case program values opened is sums peak is_sums is_peak =
     record {
       whole = is.whole;
@@ -272,7 +273,7 @@ some-of : {Y : Type 0} → (o : Option Y) → is_some o ≡ true → (y : Y) × 
 some-of None some = absurd (let wrong : false ≡ true = some in (cc))
 some-of (Some y) some = (y, refl)
 
-module _ (d : DrivenState) (parts : Parts) (link : LinkState) (j : Journal) (sums : Sums) (peak : ℕ) (is : IsDriven d parts link j sums peak) where
+module _ (d : DrivenState) (running : Running) (link : LinkState) (j : Journal) (sums : Sums) (peak : ℕ) (is : IsDriven d running link j sums peak) where
   abbrev flow : Flow ℕ
   flow = flow_by d
 
@@ -287,13 +288,13 @@ module _ (d : DrivenState) (parts : Parts) (link : LinkState) (j : Journal) (sum
 
   -- ---- which letters may be made
 
-  pub may-make : (letter : Letter) → MayMake d letter → may_make flow (summary_by parts) letter ≡ true
+  pub may-make : (letter : Letter) → MayMake d letter → may_make flow (summary_by running) letter ≡ true
   may-make letter may = ap (λ (s : Summary). may_make flow s letter) is.stands ∙ sym (summary-legal flow letter w) ∙ may
 
-  pub window-same : parts.machine.kept.cwnd ≡ (track_of flow w).env.cwnd
+  pub window-same : running.machine.kept.cwnd ≡ (track_of flow w).env.cwnd
   window-same = ap (λ (s : Summary). s.track.env.cwnd) is.stands
 
-  pub present-same : parts.epoch.program ≡ w.present.program
+  pub present-same : running.epoch.program ≡ w.present.program
   present-same = ap (λ (s : Summary). s.program) is.stands
 
   -- ---- an acknowledgement
@@ -315,19 +316,19 @@ module _ (d : DrivenState) (parts : Parts) (link : LinkState) (j : Journal) (sum
         subst AreRoomy (sym (ap (sums_with ack) is.summed ∙ sym (sums-append w.acks ack) ∙ ap sums_of linked-A))
         (roomy-run d.case.link windows (omega (arith, few, calls, given, more)))
 
-    pub driven-A : (parts' : Parts) (link' : LinkState) (j' : Journal) (sums' : Sums) (peak' : ℕ)
-        → IsParts d.programs d.case parts'
-        → summary_by parts' ≡ step_ack flow ack (summary_by parts)
+    pub driven-A : (running' : Running) (link' : LinkState) (j' : Journal) (sums' : Sums) (peak' : ℕ)
+        → IsDrivenBy d.programs d.case running'
+        → summary_by running' ≡ step_ack flow ack (summary_by running)
         → link'.case ≡ link.case
         → Stands link' (w.windows ++ (track_of flow w).env.cwnd ∷ [])
         → link'.standing.calls ≡ link.standing.calls + 1
-        → j' ≡ journal_ack ack (new_notice (acked_as (outcome_at flow ack (summary_by parts)).0) (step_ack flow ack (summary_by parts)).untold) j
+        → j' ≡ journal_ack ack (new_notice (acked_as (outcome_at flow ack (summary_by running)).0) (step_ack flow ack (summary_by running)).untold) j
         → sums' ≡ sums_with ack sums
-        → peak' ≡ max peak parts'.machine.kept.cwnd
-        → IsDriven (with_letter A d) parts' link' j' sums' peak'
-    driven-A parts' link' j' sums' peak' whole step case stands calls is_j is_sums is_peak =
+        → peak' ≡ max peak running'.machine.kept.cwnd
+        → IsDriven (with_letter A d) running' link' j' sums' peak'
+    driven-A running' link' j' sums' peak' whole step case stands calls is_j is_sums is_peak =
         let v = after_ack flow ack w in
-        let stands' : summary_by parts' ≡ summary flow (world_by (with_letter A d)) =
+        let stands' : summary_by running' ≡ summary flow (world_by (with_letter A d)) =
         step ∙ ap (step_ack flow ack) is.stands ∙ sym (summary-ack flow ack w) ∙ ap (summary flow) (sym grown-A) in
         let fault = λ (s : Summary). new_notice (acked_as (outcome_at flow ack s).0) (step_ack flow ack s).untold in
         let recorded : Records flow v j' =
@@ -359,16 +360,16 @@ module _ (d : DrivenState) (parts : Parts) (link : LinkState) (j : Journal) (sum
   grown-T : world_by (with_letter T d) ≡ after_take w
   grown-T = world-append flow giving d.answers d.word T first
 
-  pub driven-T : (parts' : Parts) (j' : Journal) (peak' : ℕ)
-      → IsParts d.programs d.case parts'
-      → summary_by parts' ≡ step_take (summary_by parts)
+  pub driven-T : (running' : Running) (j' : Journal) (peak' : ℕ)
+      → IsDrivenBy d.programs d.case running'
+      → summary_by running' ≡ step_take (summary_by running)
       → j' ≡ journal_take j
-      → peak' ≡ max peak parts'.machine.kept.cwnd
-      → IsDriven (with_letter T d) parts' link j' sums peak'
-  driven-T parts' j' peak' whole step is_j is_peak =
+      → peak' ≡ max peak running'.machine.kept.cwnd
+      → IsDriven (with_letter T d) running' link j' sums peak'
+  driven-T running' j' peak' whole step is_j is_peak =
       let v = after_take w in
       let kept = take-keeps flow w in
-      let stands' : summary_by parts' ≡ summary flow (world_by (with_letter T d)) =
+      let stands' : summary_by running' ≡ summary flow (world_by (with_letter T d)) =
       step ∙ ap step_take is.stands ∙ sym (summary-take flow w) ∙ ap (summary flow) (sym grown-T) in
       let recorded : Records flow v j' = subst (Records flow v) (sym is_j) (records-take flow w j is.records) in
       let none = answers-append d.word (T ∷ []) in
@@ -396,22 +397,22 @@ module _ (d : DrivenState) (parts : Parts) (link : LinkState) (j : Journal) (sum
     grown-C : world_by (with_given given d) ≡ after_given flow given w
     grown-C = world-given d given is.all is.taken
 
-    pub driven-C : MayMake d C → (parts' : Parts) (j' : Journal) (peak' : ℕ) (line : TicketLine) (epoch : Option EpochLine)
-        → IsParts d.programs d.case parts'
-        → summary_by parts' ≡ step_given flow given (summary_by parts)
-        → line_out parts.out parts.acks ≡ Some line
-        → epoch ≡ line_begun given.program parts'
+    pub driven-C : MayMake d C → (running' : Running) (j' : Journal) (peak' : ℕ) (line : TicketLine) (epoch : Option EpochLine)
+        → IsDrivenBy d.programs d.case running'
+        → summary_by running' ≡ step_given flow given (summary_by running)
+        → line_out (out_by running) running.acks ≡ Some line
+        → epoch ≡ line_begun given.program running'
         → j' ≡ journal_answer given line epoch j
-        → peak' ≡ max peak parts'.machine.kept.cwnd
-        → IsDriven (with_given given d) parts' link j' sums peak'
-    driven-C may parts' j' peak' line epoch whole step is_line is_epoch is_j is_peak =
+        → peak' ≡ max peak running'.machine.kept.cwnd
+        → IsDriven (with_given given d) running' link j' sums peak'
+    driven-C may running' j' peak' line epoch whole step is_line is_epoch is_j is_peak =
         let v = after_given flow given w in
         let kept = given-keeps flow given w in
         let some = some-of w.out may in
         let ticket = some.0 in
         let out : w.out ≡ Some ticket = some.1 in
-        let over : summary_by parts' ≡ summary flow v = step ∙ ap (step_given flow given) is.stands ∙ sym (summary-given flow given w) in
-        let stands' : summary_by parts' ≡ summary flow (world_by (with_given given d)) = over ∙ ap (summary flow) (sym grown-C) in
+        let over : summary_by running' ≡ summary flow v = step ∙ ap (step_given flow given) is.stands ∙ sym (summary-given flow given w) in
+        let stands' : summary_by running' ≡ summary flow (world_by (with_given given d)) = over ∙ ap (summary flow) (sym grown-C) in
         let line_same : line ≡ ticket_line flow (answered_now flow ticket w) =
         sym (same_Some (ticket_line flow (answered_now flow ticket w)) line
         ((λ i. line_out (option_map (issued_as flow) (sym out i)) (length w.acks))
@@ -510,6 +511,6 @@ told-mapped : (reading : Flow ℕ) (out : Option (Taken ℕ))
 told-mapped reading None = refl
 told-mapped reading (Some ticket) = refl
 
-module _ (d : DrivenState) (parts : Parts) (link : LinkState) (j : Journal) (sums : Sums) (peak : ℕ) (is : IsDriven d parts link j sums peak) where
-  pub told-same : option_map (λ (issued : Issued). issued.told) parts.out ≡ told_out (flow_by d) (world_by d)
+module _ (d : DrivenState) (running : Running) (link : LinkState) (j : Journal) (sums : Sums) (peak : ℕ) (is : IsDriven d running link j sums peak) where
+  pub told-same : option_map (λ (issued : Issued). issued.told) (out_by running) ≡ told_out (flow_by d) (world_by d)
   told-same = ap (λ (s : Summary). option_map (λ (issued : Issued). issued.told) s.out) is.stands ∙ told-mapped (flow_by d) (world_by d).out

@@ -6,21 +6,21 @@ use Rattle.link_model.specs.Link.{acks_for_windows}
 use Rattle.link_model.specs.Standing.{LinkState, Stands}
 use Rattle.campaign_core.specs.declared.sums.Sums.{Sums}
 use Rattle.campaign_core.specs.CampaignRow.{sums_of}
-use Rattle.flow_core.specs.declared.bare.Issued.{Issued}
+use Rattle.flow_core.specs.declared.running.Issued.{Issued}
 use Rattle.flow_core.specs.declared.book.EpochLine.{EpochLine}
 use Rattle.flow_core.specs.declared.book.TicketLine.{TicketLine}
 use Rattle.flow_core.specs.declared.letter.Letter.{Letter}
 use Rattle.flow_core.specs.declared.letter.Letter.TheVariants.{A, T, C}
 use Rattle.flow_core.specs.Summaries.{summary}
 use Rattle.driven_flow.specs.declared.journal.Journal.{Journal}
-use Rattle.driven_flow.specs.declared.parts.Parts.{Parts}
+use Rattle.flow_core.specs.declared.running.Running.{Running}
 use Rattle.driven_flow.specs.declared.state.State.{State}
 use Rattle.driven_flow.specs.declared.state.Opened.{Opened}
 use Rattle.driven_flow.specs.declared.case.DrivenCase.{DrivenCase}
 use Rattle.ccp_base.specs.FieldReg.{Pair}
 use Rattle.flow_core.specs.Books.{line_of}
 use Rattle.driven_flow.specs.Driven.{Given, DrivenState, over_codes, begun, flow_by, world_by, peak_by}
-use Rattle.driven_flow.specs.DrivenParts.{summary_by, IsParts}
+use Rattle.driven_flow.specs.DrivenSteps.{summary_by, IsDrivenBy}
 use Rattle.driven_flow.specs.DrivenJournals.{Begins, Records}
 
 -- how many of the letters are answers
@@ -45,15 +45,15 @@ line_out out acks =
     out
 
 -- the line of the epoch that an answer began, if it is a change
-abbrev pub line_begun : Option ℕ → Parts → Option EpochLine
-line_begun program parts = option_map (λ (program : ℕ). line_of parts.epoch parts.acks parts.machine.kept.cwnd) program
+abbrev pub line_begun : Option ℕ → Running → Option EpochLine
+line_begun program s = option_map (λ (program : ℕ). line_of s.epoch s.acks s.machine.kept.cwnd) program
 
--- the parts stand for the state after the word, the journal has its lists, the link stands for its windows, and each
+-- what runs stands for the state after the word, the journal has its lists, the link stands for its windows, and each
 -- answer so far was taken
-pub record IsDriven (d : DrivenState) (parts : Parts) (link : LinkState) (j : Journal) (sums : Sums) (peak : ℕ)
+pub record IsDriven (d : DrivenState) (running : Running) (link : LinkState) (j : Journal) (sums : Sums) (peak : ℕ)
     : Type 0 where
-  pub whole : IsParts d.programs d.case parts
-  pub stands : summary_by parts ≡ summary (flow_by d) (world_by d)
+  pub whole : IsDrivenBy d.programs d.case running
+  pub stands : summary_by running ≡ summary (flow_by d) (world_by d)
   pub records : Records (flow_by d) (world_by d) j
   pub all : length d.answers ≡ length (world_by d).answered
   pub taken : answers_in d.word ≡ length d.answers
@@ -76,16 +76,16 @@ driven_of s = record {
 }
 
 abbrev pub IsState : State → Type 0
-IsState s = IsDriven (driven_of s) s.parts s.link s.journal s.sums s.peak
+IsState s = IsDriven (driven_of s) s.running s.link s.journal s.sums s.peak
 
 -- what a flow has beside its case after its first change
 pub record IsOpened (programs : Codes) (case : DrivenCase) (program : ℕ) (values : List Pair)
     (opened : Opened) : Type 0 where
-  pub whole : IsParts programs case opened.parts
+  pub whole : IsDrivenBy programs case opened.running
   pub stands :
-      summary_by opened.parts
+      summary_by opened.running
       ≡ summary (over_codes programs case) (begun (over_codes programs case) case.link.mss program values)
   pub link_case : opened.link.case ≡ case.link
   pub link_stands : Stands opened.link []
   pub calls : opened.link.standing.calls ≡ 0
-  pub journal : Begins (line_of opened.parts.epoch 0 opened.parts.machine.kept.cwnd) opened.journal
+  pub journal : Begins (line_of opened.running.epoch 0 opened.running.machine.kept.cwnd) opened.journal

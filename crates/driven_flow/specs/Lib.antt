@@ -12,7 +12,7 @@ pub mod DrivenText
 pub mod SessionLaws
 pub mod AfterEnd
 -- those that only private contracts, invariants and proofs cite
-pub mod DrivenParts
+pub mod DrivenSteps
 pub mod DrivenJournals
 pub mod DrivenStates
 pub mod FrontLines

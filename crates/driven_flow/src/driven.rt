@@ -15,6 +15,7 @@ ghost use Rattle.flow_core.specs.Words.{is_complete};
 
 use crate::answer::Answer;
 use crate::case::DrivenCase;
+use crate::letters;
 use crate::programs::{Programs, is_known};
 use crate::state::{Opened, State, first_letter};
 use campaign_core::Row;
@@ -167,9 +168,9 @@ impl<'p> DrivenFlow<'p> {
     fn find_next(&self) -> Option<Letter>
         ensures { result ≡ next_of (flow_by self.now) self.now.case.lag (world_by self.now) }
     {
-        let due = self.state.parts.is_due(&self.state.case);
-        let may_take = self.state.parts.may_take();
-        let may_hear = self.state.parts.acks < self.state.case.acks;
+        let due = letters::is_due(&self.state.running, &self.state.case);
+        let may_take = self.state.running.may_take();
+        let may_hear = self.state.running.acks < self.state.case.acks;
         first_letter(due, may_take, may_hear)
     }
 
@@ -192,7 +193,7 @@ impl<'p> DrivenFlow<'p> {
         ensures program { result ≡ present_of self.now }
         ensures known { is_known self.now.programs result ≡ true }
     {
-        self.state.parts.epoch.program
+        self.state.running.epoch.program
     }
 
     /// The place of an answer's first value that names a control variable which the program that the values are for
@@ -210,14 +211,14 @@ impl<'p> DrivenFlow<'p> {
         ensures told { result ≡ told_out (flow_by self.now) (world_by self.now) }
         ensures short { IfSome result IsShort }
     {
-        self.state.parts.told_out()
+        self.state.running.told_out()
     }
 
     /// The row of the flow.
     pub fn row(&self) -> Row
         ensures { result ≡ row_over (flow_by self.now) (world_by self.now) (peak_by (flow_by self.now) self.now) }
     {
-        self.state.parts.row(self.state.sums, self.state.peak)
+        letters::row(&self.state.running, self.state.sums, self.state.peak)
     }
 
     /// How the flow stands: its counts of acknowledgements, its window, its rate and its fields.
@@ -225,14 +226,14 @@ impl<'p> DrivenFlow<'p> {
         ensures { result
             ≡ end_of (length (world_by self.now).acks) (track_of (flow_by self.now) (world_by self.now)) }
     {
-        self.state.parts.end()
+        letters::end(&self.state.running)
     }
 
     /// How many reports were asked for while there was no room.
     pub fn held(&self) -> u32
         ensures { result ≡ (world_by self.now).held }
     {
-        self.state.parts.held
+        self.state.running.held
     }
 
     /// The acknowledgements in order.

@@ -2,6 +2,7 @@
 ghost use Rattle.std.specs.Prelude.{◌≡◌, ◌<◌, [], length, is_some, true, None, Some, IfOk};
 ghost use Rattle.ccp_base.specs.FieldReg.{first_bad_pair};
 ghost use Rattle.campaign_core.specs.CampaignWord.{first_letter};
+ghost use Rattle.flow_core.specs.Runnings.{out_by};
 ghost use Rattle.driven_flow.specs.Driven.{code_in, is_known, is_known_for, bad_in, MayMake, told_out, world_by, flow_by};
 ghost use Rattle.driven_flow.specs.DrivenJournals.{HasAckRoom, HasTakeRoom, HasAnswerRoom};
 ghost use Rattle.driven_flow.specs.DrivenStates.{driven_of, IsState, with_letter, with_given, line_out, line_begun};
@@ -10,11 +11,11 @@ ghost use Rattle.driven_flow.specs.DrivenStates.{IsOpened};
 use crate::answer::Answer;
 use crate::case::DrivenCase;
 use crate::journal::{Journal, new_notice};
-use crate::parts::Parts;
+use crate::letters;
 use crate::programs::{Programs, first_bad};
 use campaign_core::Sums;
 use ccp_base::{Fields, NoMemory, Reply, Told};
-use flow_core::{EpochLine, Letter, TicketLine};
+use flow_core::{EpochLine, Letter, Running, TicketLine};
 use fold_machine::Steps;
 use link_model::Link;
 use std::alloc::Global;
@@ -29,7 +30,7 @@ pub(crate) struct State<'p> {
     pub(crate) program: u32,
     /// The values of the first change.
     pub(crate) values: Fields,
-    pub(crate) parts: Parts,
+    pub(crate) running: Running,
     pub(crate) link: Link,
     pub(crate) journal: Journal,
     pub(crate) sums: Sums,
@@ -40,7 +41,7 @@ pub(crate) struct State<'p> {
 /// What a driven flow has beside its case after its first change.
 #[derive(Drop)]
 pub(crate) struct Opened {
-    pub(crate) parts: Parts,
+    pub(crate) running: Running,
     pub(crate) link: Link,
     pub(crate) journal: Journal,
 }
@@ -59,12 +60,12 @@ impl Opened {
         requires good { first_bad_pair (length (code_in programs.now program).controls) values.now ≡ None }
         ensures { IfOk result (IsOpened programs.now case.now program values.now) }
     {
-        let parts = Parts::open(alloc, case, programs, program, values)?;
+        let running = letters::open(alloc, case, programs, program, values)?;
         let link = case.open_link(alloc)?;
-        let line = EpochLine::of(&parts.epoch, 0, parts.machine.cwnd());
+        let line = EpochLine::of(&running.epoch, 0, running.machine.cwnd());
         let journal = Journal::open(alloc, line)?;
         Ok(Opened {
-            parts,
+            running,
             link,
             journal,
         })
@@ -92,13 +93,13 @@ impl<'p> State<'p> {
           word = [];
         } }
     {
-        let peak = opened.parts.machine.cwnd();
+        let peak = opened.running.machine.cwnd();
         State {
             case,
             programs,
             program,
             values: *values,
-            parts: opened.parts,
+            running: opened.running,
             link: opened.link,
             journal: opened.journal,
             sums: Sums::none(),
@@ -115,13 +116,14 @@ impl<'p> State<'p> {
         ensures is { IsState self.new }
         ensures word { driven_of self.new ≡ with_letter Letter.A (driven_of self.old) }
     {
-        let window = self.parts.machine.cwnd();
+        let window = self.running.machine.cwnd();
         let ack = self.link.next(window);
-        let acked = self.parts.hear(&self.case, self.programs, &ack, steps);
-        let fault = new_notice(acked, self.parts.outbox.untold());
+        let programs = self.programs;
+        let acked = letters::hear(&mut self.running, &self.case, programs, &ack, steps);
+        let fault = new_notice(acked, self.running.outbox.untold());
         self.journal.put_ack(&ack, fault);
         self.sums = self.sums.with(&ack);
-        self.peak = self.peak.max(self.parts.machine.cwnd());
+        self.peak = self.peak.max(self.running.machine.cwnd());
     }
 
     /// Takes the oldest report, or else the notice, as a ticket.
@@ -133,21 +135,21 @@ impl<'p> State<'p> {
         ensures word { driven_of self.new ≡ with_letter Letter.T (driven_of self.old) }
         ensures told { told_out (flow_by (driven_of self.new)) (world_by (driven_of self.new)) ≡ Some result }
     {
-        let told = self.parts.take(&self.case, self.programs);
+        self.running.issue();
         self.journal.put_take();
-        self.peak = self.peak.max(self.parts.machine.cwnd());
-        told
+        self.peak = self.peak.max(self.running.machine.cwnd());
+        self.running.content
     }
 
     /// The place of an answer's first value that names a control variable which the program that the values are for
     /// doesn't have.
     pub(crate) fn first_bad(&self, answer: &Answer) -> Option<u32>
-        requires present { is_known self.now.programs.now self.now.parts.epoch.program ≡ true }
+        requires present { is_known self.now.programs.now self.now.running.epoch.program ≡ true }
         requires known { is_known_for self.now.programs.now answer.now.program ≡ true }
-        ensures { result ≡ bad_in self.now.programs.now self.now.parts.epoch.program answer.now }
+        ensures { result ≡ bad_in self.now.programs.now self.now.running.epoch.program answer.now }
     {
         let program = match answer.program {
-            None => self.parts.epoch.program,
+            None => self.running.epoch.program,
             Some(program) => program,
         };
         first_bad(self.programs, program, &answer.values)
@@ -158,16 +160,17 @@ impl<'p> State<'p> {
         requires is { IsState self.old }
         requires may { MayMake (driven_of self.old) Letter.C }
         requires known { is_known_for self.old.programs.now answer.now.program ≡ true }
-        requires good { bad_in self.old.programs.now self.old.parts.epoch.program answer.now ≡ None }
+        requires good { bad_in self.old.programs.now self.old.running.epoch.program answer.now ≡ None }
         requires room { HasAnswerRoom self.old.journal }
         ensures is { IsState self.new }
         ensures word { driven_of self.new ≡ with_given answer.now (driven_of self.old) }
     {
-        let ticket = line_out(&self.parts);
-        self.parts.settle(&self.case, self.programs, answer);
-        let epoch = line_begun(answer.program, &self.parts);
+        let ticket = line_out(&self.running);
+        let programs = self.programs;
+        letters::settle(&mut self.running, &self.case, programs, answer);
+        let epoch = line_begun(answer.program, &self.running);
         self.journal.put_answer(answer, &ticket, epoch);
-        self.peak = self.peak.max(self.parts.machine.cwnd());
+        self.peak = self.peak.max(self.running.machine.cwnd());
     }
 }
 
@@ -187,28 +190,28 @@ pub(crate) fn first_letter(due: bool, may_take: bool, may_hear: bool) -> Option<
 
 // A function of its own: the proof of `settle` cites its clause.
 /// The line of the ticket that is out, which must be there, if it is answered now.
-fn line_out(parts: &Parts) -> TicketLine
-    requires { is_some parts.now.out ≡ true }
-    ensures { line_out parts.now.out parts.now.acks ≡ Some result }
+fn line_out(running: &Running) -> TicketLine
+    requires { is_some (out_by running.now) ≡ true }
+    ensures { line_out (out_by running.now) running.now.acks ≡ Some result }
 {
-    let Some(issued) = parts.out.as_ref() else {
+    let Some(taken) = running.taken else {
         unreachable!()
     };
     TicketLine {
-        told: issued.told,
-        taken: issued.taken,
-        answered: parts.acks,
+        told: running.content,
+        taken,
+        answered: running.acks,
         reply: Reply::Nothing,
     }
 }
 
 // A function of its own: the proof of `settle` cites its clause, in place of a case for each answer.
 /// The line of the epoch that an answer began, if it is a change.
-fn line_begun(program: Option<u32>, parts: &Parts) -> Option<EpochLine>
-    ensures { result ≡ line_begun program parts.now }
+fn line_begun(program: Option<u32>, running: &Running) -> Option<EpochLine>
+    ensures { result ≡ line_begun program running.now }
 {
     match program {
         None => None,
-        Some(_) => Some(EpochLine::of(&parts.epoch, parts.acks, parts.machine.cwnd())),
+        Some(_) => Some(EpochLine::of(&running.epoch, running.acks, running.machine.cwnd())),
     }
 }

@@ -19,7 +19,7 @@ use Rattle.agent_core.specs.declared.agent.Agent.{Agent}
 use Rattle.agent_core.specs.declared.ticket.Ticket.{Ticket}
 use Rattle.agent_core.specs.Agents.{replied}
 use Rattle.fold_machine.specs.declared.acked.Acked.{Acked}
-use Rattle.flow_core.specs.declared.bare.Issued.{Issued}
+use Rattle.flow_core.specs.declared.running.Issued.{Issued}
 use Rattle.flow_core.specs.declared.book.EpochLine.{EpochLine}
 use Rattle.flow_core.specs.declared.book.TicketLine.{TicketLine}
 use Rattle.flow_core.specs.declared.case.Case.{Case}
@@ -33,7 +33,8 @@ use Rattle.flow_core.specs.WordLaws.{acks_in, world_over-append}
 use Rattle.flow_core.specs.Books.{ticket_line, epoch_line}
 use Rattle.flow_core.specs.Cores.{CoreState, flow_in, world_in, with_ack, acked_as}
 use Rattle.flow_core.specs.States.{issued_as, some_count}
-use Rattle.flow_core.specs.Summaries.{Summary, summary, notice_after, outcome_at, step_ack, next_telling, with_told, step_take, can_tell, step_reply, step_turn, step_out, step_answer, may_make}
+use Rattle.flow_core.specs.Runnings.{notice_after, next_telling, with_told, can_tell}
+use Rattle.flow_core.specs.Summaries.{Summary, running_of, on_running, summary, outcome_at, step_ack, step_take, step_reply, step_turn, step_out, step_answer, may_make}
 use Rattle.flow_core.specs.Bares.{BareState, InRange, told_ticket}
 use Rattle.flow_core.specs.BookFlows.{BookFlowState, book_flow_at, book_flow_of, grown_by, new_notice, answered_line, begun_line, line_after, book_heard, book_taken, book_answered}
 use Rattle.flow_core.specs.Journals.{with_item, with_some, journal_ack, journal_take, journal_answer, journal_line, taken_at, HasSpareRoom, HaveLineRoom, HasLines, book_flow_by, letter_count, IsBookFlow}
@@ -58,7 +59,7 @@ module _ (case : Case) where
   -- ---- A
 
   faults-met : (program epoch at : ℕ) (ack : Ack) (met : Outcome (FaultKind × ℕ) × Env) (untold : Option Notice) (notices : List Notice)
-      → grown_by (new_notice (acked_as met.0) (notice_after reading (failures_met program epoch at ack met) untold)) notices
+      → grown_by (new_notice (acked_as met.0) (notice_after reading.number reading.index (failures_met program epoch at ack met) untold)) notices
       ≡ notices ++ map (notice_of reading) (failures_met program epoch at ack met)
   faults-met program epoch at ack (quiet, env) untold notices = sym (append-nil notices)
   faults-met program epoch at ack (reported fields, env) untold notices = sym (append-nil notices)
@@ -184,7 +185,7 @@ book-rated s whole =
 -- ---- counts of letters and of faults
 
 count-told : (waiting : List Report) (untold : Option Notice) (s : Summary) → s.out ≡ None → is_some (next_telling waiting untold) ≡ true
-    → letter_count (with_told (next_telling waiting untold) s) ≡ letter_count s + 1
+    → letter_count (on_running (with_told (next_telling waiting untold)) s) ≡ letter_count s + 1
 count-told [] None s none some = absurd (true≢false (sym some))
 count-told [] (Some notice) s none some = let none = ap some_count none in omega (arith, none)
 count-told (report ∷ rest) untold s none some = let none = ap some_count none in omega (arith, none)
@@ -196,7 +197,7 @@ some-waits [] (Some notice) some = omega arith
 some-waits (report ∷ rest) untold some = omega arith
 
 -- a taking is no fault
-faults-told : (told : Option (Told × (List Report × Option Notice))) (s : Summary) → (with_told told s).faults ≡ s.faults
+faults-told : (told : Option (Told × (List Report × Option Notice))) (s : Summary) → (on_running (with_told told) s).faults ≡ s.faults
 faults-told None s = refl
 faults-told (Some told) s = refl
 
@@ -301,13 +302,13 @@ module _ (bare : BareState) (j : Journal) where
     })
 
     none-out : s.out ≡ None
-    none-out = none-left s.out (can_tell s) may
+    none-out = none-left s.out (can_tell (running_of s)) may
 
     pub room-T : (reads_rates : Bool) → IsBookFlow bare reads_rates j → InRange bare.case bare.summary → HasSpareRoom room_for.word
     room-T reads_rates whole range =
         let none = ap some_count none-out in
-        let waits = some-waits s.waiting s.untold (and_parts (is_none s.out) (can_tell s) may).1 in
-        let few : length j.word.items < j.word.room = omega (arith, none, waits, whole.letters, whole.rooms.word, range.tickets, range.acks) in
+        let waits = some-waits s.waiting s.untold (and_parts (is_none s.out) (can_tell (running_of s)) may).1 in
+        let few : length j.word.items < j.word.room = omega (arith, none, waits, whole.letters, whole.rooms.word, range.counts.tickets, range.acks) in
         subst (λ (k : Journal). HasSpareRoom k.word) (sym framed) few
 
     -- memory ran out
@@ -332,7 +333,7 @@ module _ (bare : BareState) (j : Journal) where
           → IsBookFlow new reads_rates next
       whole-T reads_rates whole room =
           let before = reserved reads_rates whole (lines-any s.out room_for room) in
-          let more = count-told s.waiting s.untold s none-out (and_parts (is_none s.out) (can_tell s) may).1 in
+          let more = count-told s.waiting s.untold s none-out (and_parts (is_none s.out) (can_tell (running_of s)) may).1 in
           let literal : IsBookFlow (record bare { summary = step_take s }) reads_rates (journal_take room_for) = record {
             rates = before.rates;
             faults = before.faults ∙ sym (faults-told (next_telling s.waiting s.untold) s);

@@ -12,9 +12,8 @@ pub mod WorkedText
 pub mod LeftLemmas
 pub mod RateLemmas
 pub mod SummaryLemmas
+pub mod RunningLemmas
 pub mod BareLemmas
-pub mod BareAnswerLemmas
-pub mod BareOpeningLemmas
 pub mod BookFlowLemmas
 pub mod CoreLemmas
 pub mod CellLemmas

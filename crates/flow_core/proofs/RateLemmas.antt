@@ -25,7 +25,8 @@ use Rattle.flow_core.specs.declared.case.Case.{Case}
 use Rattle.reg_compiler.specs.Simulation.{kept_of}
 use Rattle.flow_core.specs.Readings.{Flow, met_of, by_code, code_at, over_codes}
 use Rattle.flow_core.specs.ReadsRates.{is_rate_number, is_rate, instr_reads_rates, one_reads_rates, code_reads_rates, case_reads_rates}
-use Rattle.flow_core.specs.Summaries.{Summary, step_outcome, outcome_at, step_ack}
+use Rattle.flow_core.specs.Runnings.{RunningSummary, step_outcome}
+use Rattle.flow_core.specs.Summaries.{Summary, running_of, summary_with, on_running, outcome_at, step_ack}
 
 -- ---- a register
 
@@ -159,13 +160,13 @@ reading-unread case number false env ack room none =
     ap met_of (code-unread (code_at case number) (kept_of env) ack room unread)
 
 -- what is recorded of an outcome depends on the acknowledgement by its time alone
-recorded-unread : {X : Type 0} → (flow : Flow X) (ack : Ack) (outcome : Outcome (FaultKind × X)) (env : Env) (s : Summary)
-    → step_outcome flow (without_rates ack) (outcome, env) s ≡ step_outcome flow ack (outcome, env) s
-recorded-unread flow ack quiet env s = refl
-recorded-unread flow ack (reported fields) env s = refl
-recorded-unread flow ack held env s = refl
-recorded-unread flow ack (failed fault) env s = refl
-recorded-unread flow ack stopped env s = refl
+recorded-unread : {X : Type 0} → (flow : ℕ) (index : X → ℕ) (ack : Ack) (outcome : Outcome (FaultKind × X)) (env : Env) (s : RunningSummary)
+    → step_outcome flow index (without_rates ack) (outcome, env) s ≡ step_outcome flow index ack (outcome, env) s
+recorded-unread flow index ack quiet env s = refl
+recorded-unread flow index ack (reported fields) env s = refl
+recorded-unread flow index ack held env s = refl
+recorded-unread flow index ack (failed fault) env s = refl
+recorded-unread flow index ack stopped env s = refl
 
 outcome-by : (rates : Bool) (case : Case) (ack : Ack) (s : Summary) → case_reads_rates case ≡ rates
     → outcome_at (over_codes case) (rated rates ack) s ≡ outcome_at (over_codes case) ack s
@@ -179,13 +180,13 @@ pub outcome-rated : (case : Case) (ack : Ack) (s : Summary)
 outcome-rated case ack s = outcome-by (case_reads_rates case) case ack s refl
 
 step-by : (rates : Bool) (flow : Flow ℕ) (ack : Ack) (met : Outcome (FaultKind × ℕ) × Env) (s : Summary)
-    → step_outcome flow (rated rates ack) met s ≡ step_outcome flow ack met s
+    → on_running (step_outcome flow.number flow.index (rated rates ack) met) s ≡ on_running (step_outcome flow.number flow.index ack met) s
 step-by true flow ack met s = refl
-step-by false flow ack met s = recorded-unread flow ack met.0 met.1 s
+step-by false flow ack met s = ap (summary_with s.agent) (recorded-unread flow.number flow.index ack met.0 met.1 (running_of s))
 
 -- and so is the flow after it
 pub step-rated : (case : Case) (ack : Ack) (s : Summary)
     → step_ack (over_codes case) (rated (case_reads_rates case) ack) s ≡ step_ack (over_codes case) ack s
 step-rated case ack s =
     step-by (case_reads_rates case) (over_codes case) ack (outcome_at (over_codes case) (rated (case_reads_rates case) ack) s) s
-    ∙ ap (λ (met : Outcome (FaultKind × ℕ) × Env). step_outcome (over_codes case) ack met s) (outcome-rated case ack s)
+    ∙ ap (λ (met : Outcome (FaultKind × ℕ) × Env). on_running (step_outcome case.flow (λ (i : ℕ). i) ack met) s) (outcome-rated case ack s)

@@ -19,7 +19,8 @@ use Rattle.flow_core.specs.Words.{is_legal, is_still, is_complete}
 use Rattle.flow_core.specs.Books.{ticket_line}
 use Rattle.flow_core.specs.LiveText.{reports_told, report_count}
 use Rattle.flow_core.specs.States.{issued_as}
-use Rattle.flow_core.specs.Summaries.{summary, notice_after, step_ack, next_telling, with_told, step_take, step_reply, step_turn, step_out, step_answer, may_make, is_idle, is_done}
+use Rattle.flow_core.specs.Runnings.{notice_after, next_telling, with_told}
+use Rattle.flow_core.specs.Summaries.{summary, on_running, step_ack, step_take, step_reply, step_turn, step_out, step_answer, may_make, is_idle, is_done}
 use Rattle.flow_core.proofs.MappedLemmas.{some-mapped, none-mapped}
 
 -- the time of the last one of a list
@@ -36,7 +37,7 @@ module _ {X : Type 0} (flow : Flow X) where
   -- ---- A
 
   untold-met : (failures : List (Failure X)) (untold : Option (Failure X))
-      → option_map (notice_of flow) (untold_after failures untold) ≡ notice_after flow failures (option_map (notice_of flow) untold)
+      → option_map (notice_of flow) (untold_after failures untold) ≡ notice_after flow.number flow.index failures (option_map (notice_of flow) untold)
   untold-met [] untold = refl
   untold-met (failure ∷ rest) untold = refl
 
@@ -59,7 +60,7 @@ module _ {X : Type 0} (flow : Flow X) where
   -- ---- T
 
   summary-taken : (waiting : List Report) (untold : Option (Failure X)) (w : World X)
-      → summary flow (with_taken (takeable waiting untold) w) ≡ with_told (next_telling waiting (option_map (notice_of flow) untold)) (summary flow w)
+      → summary flow (with_taken (takeable waiting untold) w) ≡ on_running (with_told (next_telling waiting (option_map (notice_of flow) untold))) (summary flow w)
   summary-taken (report ∷ rest) untold w = refl
   summary-taken [] (Some failure) w = refl
   summary-taken [] None w = refl

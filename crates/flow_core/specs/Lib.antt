@@ -13,6 +13,7 @@ pub mod Cores
 pub mod Cells
 pub mod LiveText
 pub mod LettersLeft
+pub mod Runnings
 pub mod Summaries
 pub mod SummaryLaw
 pub mod Bares
@@ -20,6 +21,5 @@ pub mod BookFlows
 -- those that only private contracts, invariants and proofs cite
 pub mod WordLaws
 pub mod States
-pub mod Opening
 pub mod MachineCalls
 pub mod Journals

@@ -4,7 +4,7 @@ use Rattle.ccp_base.specs.declared.arithmetic.FaultKind.{FaultKind}
 use Rattle.portus_core.specs.Epoch.{Outcome, quiet, reported, held, failed, stopped}
 use Rattle.fold_machine.specs.declared.acked.Acked.{Acked}
 use Rattle.fold_machine.specs.declared.acked.Acked.TheVariants as acked
-use Rattle.flow_core.specs.declared.bare.Issued.{Issued}
+use Rattle.flow_core.specs.declared.running.Issued.{Issued}
 use Rattle.flow_core.specs.Readings.{Flow}
 use Rattle.flow_core.specs.World.{Taken, told_as}
 

@@ -1,20 +1,14 @@
 //! What later letters of a flow depend on, without its history.
 ghost use Rattle.std.specs.Prelude.{◌≡◌, ◌+◌, ◌<◌, ◌≤◌, length, true, is_some, None, Some, option_map, IfOk};
 ghost use Rattle.ccp_base.specs.FieldReg.{first_bad_pair};
-ghost use Rattle.ccp_base.specs.Limits.{most_acks};
-ghost use Rattle.portus_core.specs.Epoch.{reported, failed};
-ghost use Rattle.slot_pool.specs.Pool.{free_of};
-ghost use Rattle.agent_core.specs.Agents.{values_of, window_pair};
-ghost use Rattle.fold_machine.specs.MachineState.{Fits};
+ghost use Rattle.agent_core.specs.Agents.{values_of};
 ghost use Rattle.flow_core.specs.Readings.{env_of, code_at, over_codes};
 ghost use Rattle.flow_core.specs.World.{opening};
 ghost use Rattle.flow_core.specs.Cores.{acked_as};
-ghost use Rattle.flow_core.specs.LiveText.{reports_told};
-ghost use Rattle.flow_core.specs.States.{outcome_by};
+ghost use Rattle.flow_core.specs.Runnings.{RunsOn, out_by, running_by, can_tell, step_values};
 ghost use Rattle.flow_core.specs.Summaries.{summary, step_ack, step_take, step_answer, outcome_at};
-ghost use Rattle.flow_core.specs.Summaries.{can_tell, may_make, is_idle, is_done};
-ghost use Rattle.flow_core.specs.Bares.{IsFirst, AreGood, InRange, closed_parts, UpdatesBare, ChangesBare, ObeysBare};
-ghost use Rattle.flow_core.specs.Bares.{out_by, summary_by, told_ticket, instructions_at, IsBare, CanNote, HasSpace, NotesBare};
+ghost use Rattle.flow_core.specs.Summaries.{may_make, is_idle, is_done};
+ghost use Rattle.flow_core.specs.Bares.{summary_by, told_ticket, instructions_at, InRange, IsBare, IsFirst, AreGood, Obeys};
 ghost use Rattle.flow_core.specs.BookFlows.{begun_line};
 ghost use Rattle.flow_core.specs.ReadsRates.{case_reads_rates};
 ghost use Rattle.link_model.specs.Rated.{rated};
@@ -22,74 +16,62 @@ ghost use Rattle.link_model.specs.Rated.{rated};
 use crate::book::EpochLine;
 use crate::case::Case;
 use crate::letter::Letter;
-use crate::machine_calls::{pop_content, put_last_report, run};
-use crate::opening::opening_machine;
+use crate::running::Running;
 use agent_core::{Agent, Answer, Ticket};
-use ccp_base::{Ack, FaultKind, NoMemory, Notice, Reply, Report, RunningEpoch, Told, Values};
-use flow_lists::Outbox;
+use ccp_base::{Ack, NoMemory, Notice, Reply};
 use fold_machine::{Acked, Machine, Steps};
 use std::alloc::Global;
 use std::marker::{Brand, Model};
 use std::sync::ledger::{Blank, Ledger};
 
-/// What the ticket that is out tells, and at how many acknowledgements it was taken.
-#[derive(Clone, Copy, Drop)]
-pub struct Issued {
-    pub told: Told,
-    pub taken: u32,
-}
-
 /// What later letters depend on, part by part.
 #[derive(Drop)]
 pub(crate) struct BareParts {
     pub(crate) case: Case,
-    /// It runs the epoch's program. Its further slots are the outbox's.
-    pub(crate) machine: Machine,
-    pub(crate) epoch: RunningEpoch,
-    /// How many acknowledgements are in.
-    pub(crate) acks: u32,
-    /// The time of the last acknowledgement in microseconds, 0 if there is none.
-    pub(crate) time: u64,
-    pub(crate) outbox: Outbox,
     pub(crate) agent: Agent,
-    // A place that stays, and that each ticket fills: its content is large, so moving it costs more than reading it.
-    /// What the last ticket told; a report of nothing until there is one.
-    pub(crate) content: Told,
-    /// At how many acknowledgements the ticket that is out was taken; None if none is out.
-    pub(crate) taken: Option<u32>,
-    /// How many tickets were answered.
-    pub(crate) answered: u32,
-    /// How many of them had a report.
-    pub(crate) told: u32,
-    /// How many faults there were.
-    pub(crate) faults: u32,
-    /// How many reports were asked for while there was no room.
-    pub(crate) held: u32,
+    pub(crate) running: Running,
 }
 
-/// What a flow has beside its case before its first letter.
-#[derive(Drop)]
-struct First {
-    machine: Machine,
-    epoch: RunningEpoch,
-    outbox: Outbox,
+// A function of its own: it has the case by reference, so that none of its exits drops it.
+/// What runs in a flow of this case before its first letter.
+fn open_running(alloc: Global, case: &Case) -> Result<Running, NoMemory>
+    ensures { IfOk result (IsFirst case.now) }
+{
+    let program = case.agent.course().ss.number;
+    let values = case.agent.values(&case.agent.begin());
+    let running = Running::open(alloc, case.code(program), program, &values, 0, case.slots)?;
+    Ok(running)
 }
 
-impl First {
-    // A function of its own: it has the case by reference, so that none of its exits drops it.
-    /// What a flow of this case has.
-    fn of(alloc: Global, case: &Case) -> Result<First, NoMemory>
-        ensures { IfOk result (IsFirst case.now) }
-    {
-        let epoch = RunningEpoch::opening(case.agent.course().ss.number, 0);
-        let outbox = Outbox::new(alloc, case.slots)?;
-        let machine = opening_machine(alloc, case, epoch.program)?;
-        Ok(First {
-            machine,
-            epoch,
-            outbox,
-        })
+/// Does what this agent's reply says.
+fn apply_reply(case: &Case, agent: &Agent, running: &mut Running, reply: &Reply)
+    requires runs { RunsOn (code_at case.now) case.now.slots running.old }
+    requires acks { running.old.acks ≤ case.now.acks }
+    requires good { AreGood case.now running.old.epoch.program reply.now (values_of agent.now reply.now) }
+    requires epoch { running.old.epoch.number < running.old.answered }
+    ensures { Obeys case.now reply.now (values_of agent.now reply.now) running.old running.new }
+{
+    match *reply {
+        Reply::Nothing => {}
+        Reply::Update(cwnd) => running.set_window(cwnd),
+        Reply::Change { program, .. } => start_program(case, agent, running, program, reply),
     }
+}
+
+// A function of its own: few replies call it, and it has a list of values in its frame.
+/// Starts the program with this number with the values of this agent's reply.
+#[inline(never)]
+fn start_program(case: &Case, agent: &Agent, running: &mut Running, program: u32, reply: &Reply)
+    requires runs { RunsOn (code_at case.now) case.now.slots running.old }
+    requires acks { running.old.acks ≤ case.now.acks }
+    requires good { first_bad_pair (length (code_at case.now program).controls) (values_of agent.now reply.now) ≡ None }
+    requires epoch { running.old.epoch.number < running.old.answered }
+    ensures runs { RunsOn (code_at case.now) case.now.slots running.new }
+    ensures step { running_by running.new
+        ≡ step_values (over_codes case.now) (Some program) (values_of agent.now reply.now) (running_by running.old) }
+{
+    let values = agent.values(reply);
+    running.start(case.code(program), program, &values);
 }
 
 impl BareParts {
@@ -99,8 +81,8 @@ impl BareParts {
         ensures case { IfOk result (λ s. s.case ≡ case) }
         ensures summary { IfOk result (λ s. summary_by s ≡ summary (over_codes case) (opening (over_codes case))) }
     {
-        match First::of(alloc, &case) {
-            Ok(first) => Ok(BareParts::parts_at_opening(case, first)),
+        match open_running(alloc, &case) {
+            Ok(running) => Ok(BareParts::at_opening(case, running)),
             Err(fault) => {
                 drop(case);
                 Err(fault)
@@ -109,9 +91,9 @@ impl BareParts {
     }
 
     // A function of its own: it can't fail, so the proof has the whole flow at one exit.
-    /// A flow of this case that has this before its first letter.
-    fn parts_at_opening(case: Case, first: First) -> BareParts
-        requires { IsFirst case first }
+    /// A flow of this case in which this runs before its first letter.
+    fn at_opening(case: Case, running: Running) -> BareParts
+        requires { IsFirst case running }
         ensures parts { IsBare result }
         ensures case { result.case ≡ case }
         ensures summary { summary_by result ≡ summary (over_codes case) (opening (over_codes case)) }
@@ -119,26 +101,16 @@ impl BareParts {
         let agent = case.agent;
         BareParts {
             case,
-            machine: first.machine,
-            epoch: first.epoch,
-            acks: 0,
-            time: 0,
-            outbox: first.outbox,
             agent,
-            content: Told::Report(no_report()),
-            taken: None,
-            answered: 0,
-            told: 0,
-            faults: 0,
-            held: 0,
+            running,
         }
     }
 
     /// Takes the oldest report, or else the notice, as a ticket. One must be there, and no ticket may be out.
-    pub(crate) fn take(&mut self) -> Ticket
+    fn take(&mut self) -> Ticket
         requires parts { IsBare self.old }
-        requires none_out { out_by self.old ≡ None }
-        requires some { can_tell (summary_by self.old) ≡ true }
+        requires none_out { out_by self.old.running ≡ None }
+        requires some { can_tell (running_by self.old.running) ≡ true }
         ensures parts { IsBare self.new }
         ensures case { self.new.case ≡ self.old.case }
         ensures step { summary_by self.new ≡ step_take (summary_by self.old) }
@@ -151,23 +123,21 @@ impl BareParts {
     /// As `take`, without the ticket.
     fn issue(&mut self)
         requires parts { IsBare self.old }
-        requires none_out { out_by self.old ≡ None }
-        requires some { can_tell (summary_by self.old) ≡ true }
+        requires none_out { out_by self.old.running ≡ None }
+        requires some { can_tell (running_by self.old.running) ≡ true }
         ensures parts { IsBare self.new }
         ensures case { self.new.case ≡ self.old.case }
         ensures step { summary_by self.new ≡ step_take (summary_by self.old) }
-        ensures out { self.new.taken ≡ Some self.new.acks }
+        ensures out { self.new.running.taken ≡ Some self.new.running.acks }
     {
-        pop_content(&mut self.machine, &mut self.outbox, &mut self.content);
-        let taken = self.acks;
-        self.taken = Some(taken);
+        self.running.issue();
     }
 
     /// Takes an acknowledgement. One must be left.
     #[inline(always)]
-    pub(crate) fn hear<L: Ledger>(&mut self, ack: &Ack, steps: &mut Steps<L>) -> Acked
+    fn hear<L: Ledger>(&mut self, ack: &Ack, steps: &mut Steps<L>) -> Acked
         requires parts { IsBare self.old }
-        requires left { self.old.acks < self.old.case.acks }
+        requires left { self.old.running.acks < self.old.case.acks }
         ensures parts { IsBare self.new }
         ensures case { self.new.case ≡ self.old.case }
         ensures step { summary_by self.new ≡ step_ack (over_codes self.old.case) ack.entry.now (summary_by self.old) }
@@ -175,225 +145,53 @@ impl BareParts {
             ≡ acked_as (outcome_at (over_codes self.old.case) ack.entry.now (summary_by self.old)).0 }
         ensures steps { steps.new ≡ steps.old + instructions_at self.old.case ack.entry.now (summary_by self.old) }
     {
-        let room = self.outbox.room();
-        let code = self.case.code(self.epoch.program);
-        let acked = run(&mut self.machine, code, ack, room, steps);
-        self.record_outcome(ack, acked);
-        self.acks += 1;
-        self.time = ack.now;
-        acked
-    }
-
-    /// Records the outcome of an acknowledgement, by the machine's answer. Most have none.
-    #[inline(always)]
-    fn record_outcome(&mut self, ack: &Ack, acked: Acked)
-        requires can { CanNote self.old }
-        requires acks { self.old.acks < most_acks }
-        requires room { acked ≡ Acked.Reported → HasSpace self.old }
-        ensures { NotesBare self.old self.new ack.entry.now (outcome_by acked self.old.machine.report) }
-    {
-        if let Acked::Quiet = acked {
-            return;
-        }
-        self.record_any_outcome(ack, acked);
-    }
-
-    // A function of its own: few acknowledgements call it, and `record_outcome` is inlined without it.
-    /// Records the outcome of an acknowledgement, by the machine's answer.
-    #[inline(never)]
-    fn record_any_outcome(&mut self, ack: &Ack, acked: Acked)
-        requires can { CanNote self.old }
-        requires acks { self.old.acks < most_acks }
-        requires room { acked ≡ Acked.Reported → HasSpace self.old }
-        ensures { NotesBare self.old self.new ack.entry.now (outcome_by acked self.old.machine.report) }
-    {
-        match acked {
-            Acked::Quiet | Acked::Stopped => {}
-            Acked::Reported => self.record_report(ack),
-            Acked::Held => self.held += 1,
-            Acked::Faulted(kind, index) => self.record_fault(ack, kind, index),
-        }
-    }
-
-    /// Records the report that the machine made.
-    fn record_report(&mut self, ack: &Ack)
-        requires can { CanNote self.old }
-        requires acks { self.old.acks < most_acks }
-        requires room { length self.old.outbox.slots < self.old.outbox.size }
-        requires free { 0 < free_of self.old.machine.further }
-        ensures { NotesBare self.old self.new ack.entry.now (reported self.old.machine.report) }
-    {
         let flow = self.case.flow;
-        let cwnd = self.machine.cwnd();
-        let rate = self.machine.rate();
-        let end = u64::from(self.acks) + 1;
-        // without the fields, which go from the machine to the slot
-        let report = self
-            .epoch
-            .report(flow, end, ack.now, cwnd, rate, &Values::new());
-        put_last_report(&mut self.machine, &mut self.outbox, &report);
-    }
-
-    /// Records a fault of this kind at the instruction with this index.
-    fn record_fault(&mut self, ack: &Ack, kind: FaultKind, index: u16)
-        requires { CanNote self.old }
-        ensures { NotesBare self.old self.new ack.entry.now (failed (kind, index)) }
-    {
-        let flow = self.case.flow;
-        let cwnd = self.machine.cwnd();
-        let at = u64::from(self.acks);
-        let notice = self.epoch.notice(flow, at, ack.now, cwnd, kind, index);
-        self.faults += 1;
-        self.outbox.note(notice);
+        let program = self.running.epoch.program;
+        self.running.ack(self.case.code(program), flow, ack, steps)
     }
 
     /// Applies the answer to the ticket that is out.
-    pub(crate) fn settle(&mut self, answer: &Answer)
+    fn settle(&mut self, answer: &Answer)
         requires parts { IsBare self.old }
         requires out { told_ticket self.old.case (summary_by self.old) ≡ Some answer.now }
         ensures parts { IsBare self.new }
         ensures case { self.new.case ≡ self.old.case }
         ensures step { summary_by self.new ≡ step_answer (over_codes self.old.case) (summary_by self.old) }
     {
-        let reports = reports_told(&answer.ticket().told);
-        self.apply_reply(&answer.reply());
-        self.record_answer(answer.after(), reports);
+        self.running.close();
+        apply_reply(&self.case, &self.agent, &mut self.running, &answer.reply());
+        self.agent = *answer.after();
     }
 
     // The agent replies where it stays: it is large, so a copy of it costs as much as many a reply.
     /// Has the agent answer the ticket that is out, and applies its answer.
     fn consult(&mut self)
         requires parts { IsBare self.old }
-        requires out { is_some (out_by self.old) ≡ true }
+        requires out { is_some (out_by self.old.running) ≡ true }
         ensures parts { IsBare self.new }
         ensures case { self.new.case ≡ self.old.case }
         ensures step { summary_by self.new ≡ step_answer (over_codes self.old.case) (summary_by self.old) }
     {
-        let reply = self.agent.reply(&self.content);
-        let reports = reports_told(&self.content);
-        self.apply_reply(&reply);
-        self.close_ticket(reports);
-    }
-
-    /// Records that the ticket that is out was answered, the agent after that, and how many reports the ticket had.
-    fn record_answer(&mut self, after: &Agent, reports: u32)
-        requires answered { self.old.answered < most_acks }
-        requires told { self.old.told < most_acks }
-        requires one { reports ≤ 1 }
-        ensures { self.new ≡ closed_parts after.now reports self.old }
-    {
-        self.agent = *after;
-        self.close_ticket(reports);
-    }
-
-    /// Records that the ticket that is out was answered, and how many reports it had.
-    fn close_ticket(&mut self, reports: u32)
-        requires answered { self.old.answered < most_acks }
-        requires told { self.old.told < most_acks }
-        requires one { reports ≤ 1 }
-        ensures { self.new ≡ closed_parts self.old.agent reports self.old }
-    {
-        self.taken = None;
-        self.answered += 1;
-        self.told += reports;
-    }
-
-    /// Does what the agent's reply says.
-    fn apply_reply(&mut self, reply: &Reply)
-        requires fits { Fits self.old.machine (code_at self.old.case self.old.epoch.program) }
-        requires good { AreGood self.old.case self.old.epoch.program reply.now (values_of self.old.agent reply.now) }
-        requires epoch { self.old.epoch.number < most_acks }
-        ensures { ObeysBare self.old self.new reply.now (values_of self.old.agent reply.now) }
-    {
-        match *reply {
-            Reply::Nothing => {}
-            Reply::Update(cwnd) => self.set_window(cwnd),
-            Reply::Change { program, .. } => self.start_program(program, reply),
-        }
-    }
-
-    /// Writes the window of an update, in bytes.
-    fn set_window(&mut self, cwnd: u64)
-        requires { Fits self.old.machine (code_at self.old.case self.old.epoch.program) }
-        ensures { UpdatesBare self.old self.new (window_pair cwnd) }
-    {
-        self.machine.set_cwnd(cwnd);
-    }
-
-    // A function of its own: few replies call it, and it has a list of values in its frame.
-    /// Starts the program with this number, and with it an epoch, with the values of the reply that is a change to it.
-    /// An untold notice is void then.
-    #[inline(never)]
-    fn start_program(&mut self, program: u32, reply: &Reply)
-        requires good { first_bad_pair (length (code_at self.old.case program).controls)
-            (values_of self.old.agent reply.now) ≡ None }
-        requires epoch { self.old.epoch.number < most_acks }
-        ensures { ChangesBare self.old self.new program (values_of self.old.agent reply.now) }
-    {
-        let values = self.agent.values(reply);
-        let code = self.case.code(program);
-        let Ok(()) = self.machine.start(code, &values, self.time) else {
-            unreachable!()
-        };
-        self.epoch = self.epoch.next(program, u64::from(self.acks));
-        self.outbox.void();
-    }
-
-    /// Whether a report waits or a notice is untold.
-    fn can_take(&self) -> bool
-        ensures { result ≡ can_tell (summary_by self.now) }
-    {
-        !self.outbox.is_empty()
-    }
-
-    /// Whether a ticket is out.
-    fn has_out(&self) -> bool
-        ensures { result ≡ is_some (out_by self.now) }
-    {
-        self.taken.is_some()
+        let reply = self.agent.reply(&self.running.content);
+        self.running.close();
+        apply_reply(&self.case, &self.agent, &mut self.running, &reply);
     }
 
     /// The ticket that tells the content.
     fn ticket(&self) -> Ticket
         ensures { result ≡ record {
           flow = self.now.case.flow;
-          number = self.now.answered;
+          number = self.now.running.answered;
           before = self.now.agent;
-          told = self.now.content;
+          told = self.now.running.content;
         } }
     {
         Ticket {
             flow: self.case.flow,
-            number: self.answered,
+            number: self.running.answered,
             before: self.agent,
-            told: self.content,
+            told: self.running.content,
         }
-    }
-}
-
-/// A report of nothing.
-fn no_report() -> Report {
-    Report {
-        flow: 0,
-        program: 0,
-        epoch: 0,
-        first: 0,
-        end: 0,
-        now: 0,
-        cwnd: 0,
-        rate: 0,
-        fields: Values::new(),
-    }
-}
-
-/// How many reports a ticket's content is: one or none.
-fn reports_told(told: &Told) -> u32
-    ensures told { result ≡ reports_told told.now }
-    ensures one { result ≤ 1 }
-{
-    match told {
-        Told::Report(_) => 1,
-        Told::Fault(_) => 0,
     }
 }
 
@@ -437,7 +235,7 @@ impl Bare {
     pub fn acks(&self) -> u32
         ensures { result ≡ self.now.summary.acks }
     {
-        self.parts.acks
+        self.parts.running.acks
     }
 
     // For the proof alone: the type's invariant, as a clause that callers can cite.
@@ -452,42 +250,42 @@ impl Bare {
     pub fn program(&self) -> u32
         ensures { result ≡ self.now.summary.program }
     {
-        self.parts.epoch.program
+        self.parts.running.epoch.program
     }
 
     /// How many reports wait.
     pub fn waiting(&self) -> u32
         ensures { result ≡ length self.now.summary.waiting }
     {
-        self.parts.outbox.waiting()
+        self.parts.running.outbox.waiting()
     }
 
     /// The fault notice that is untold, or none.
     pub fn untold(&self) -> Option<Notice>
         ensures { result ≡ self.now.summary.untold }
     {
-        self.parts.outbox.untold()
+        self.parts.running.outbox.untold()
     }
 
     /// The present congestion window, in bytes.
     pub fn cwnd(&self) -> u64
         ensures { result ≡ self.now.summary.track.env.cwnd }
     {
-        self.parts.machine.cwnd()
+        self.parts.running.machine.cwnd()
     }
 
     /// The time of the last acknowledgement in microseconds, 0 if there is none.
     pub fn time(&self) -> u64
         ensures { result ≡ self.now.summary.time }
     {
-        self.parts.time
+        self.parts.running.time
     }
 
     /// The number of the present epoch, 0 for the opening one.
     pub fn epoch(&self) -> u32
         ensures { result ≡ self.now.summary.epoch }
     {
-        self.parts.epoch.number
+        self.parts.running.epoch.number
     }
 
     /// The line of an epoch that begins now.
@@ -495,9 +293,9 @@ impl Bare {
         ensures { result ≡ begun_line self.now.summary }
     {
         EpochLine::of(
-            &self.parts.epoch,
-            self.parts.acks,
-            self.parts.machine.cwnd(),
+            &self.parts.running.epoch,
+            self.parts.running.acks,
+            self.parts.running.machine.cwnd(),
         )
     }
 
@@ -505,42 +303,42 @@ impl Bare {
     pub fn first(&self) -> u64
         ensures { result ≡ self.now.summary.track.first }
     {
-        self.parts.epoch.first
+        self.parts.running.epoch.first
     }
 
     /// How many answered tickets told a report.
     pub fn told(&self) -> u32
         ensures { result ≡ self.now.summary.told }
     {
-        self.parts.told
+        self.parts.running.told
     }
 
     /// How many faults there were.
     pub fn faults(&self) -> u32
         ensures { result ≡ self.now.summary.faults }
     {
-        self.parts.faults
+        self.parts.running.faults
     }
 
     /// How many reports were asked for while there was no room.
     pub fn held(&self) -> u32
         ensures { result ≡ self.now.summary.held }
     {
-        self.parts.held
+        self.parts.running.held
     }
 
     /// Whether a ticket is out.
     pub fn has_out(&self) -> bool
         ensures { result ≡ may_make (over_codes self.now.case) self.now.summary Letter.C }
     {
-        self.parts.has_out()
+        self.parts.running.has_out()
     }
 
     /// At how many acknowledgements the ticket that is out was taken, if one is out.
     pub fn taken(&self) -> Option<u32>
         ensures { result ≡ option_map (λ issued. issued.taken) self.now.summary.out }
     {
-        let taken = self.parts.taken?;
+        let taken = self.parts.running.taken?;
         Some(taken)
     }
 
@@ -548,7 +346,7 @@ impl Bare {
     pub fn out(&self) -> Option<Ticket>
         ensures { result ≡ told_ticket self.now.case self.now.summary }
     {
-        self.parts.taken?;
+        self.parts.running.taken?;
         Some(self.parts.ticket())
     }
 
@@ -556,32 +354,32 @@ impl Bare {
     pub fn out_number(&self) -> Option<u32>
         ensures { result ≡ option_map (λ ticket. ticket.number) (told_ticket self.now.case self.now.summary) }
     {
-        self.parts.taken?;
-        Some(self.parts.answered)
+        self.parts.running.taken?;
+        Some(self.parts.running.answered)
     }
 
     /// Whether no ticket is out and nothing can be taken.
     pub fn is_idle(&self) -> bool
         ensures { result ≡ is_idle self.now.summary }
     {
-        !self.parts.has_out() && !self.parts.can_take()
+        !self.parts.running.has_out() && !self.parts.running.can_take()
     }
 
     /// Whether all acknowledgements are in, nothing can be taken and no ticket is out.
     pub fn is_done(&self) -> bool
         ensures { result ≡ is_done (over_codes self.now.case) self.now.summary }
     {
-        if self.parts.acks < self.parts.case.acks {
+        if self.parts.running.acks < self.parts.case.acks {
             return false;
         }
-        !self.parts.has_out() && !self.parts.can_take()
+        !self.parts.running.has_out() && !self.parts.running.can_take()
     }
 
     /// Whether a ticket may be taken: none is out, and a report waits or a notice is untold.
     pub fn may_take(&self) -> bool
         ensures { result ≡ may_make (over_codes self.now.case) self.now.summary Letter.T }
     {
-        !self.parts.has_out() && self.parts.can_take()
+        self.parts.running.may_take()
     }
 
     /// Takes the oldest report, or else the notice, as a ticket.
@@ -664,6 +462,6 @@ impl Bare {
         ensures stopped { result.1.is_stopped ≡ self.summary.track.is_stopped }
     {
         let parts = self.parts;
-        (parts.case, parts.machine)
+        (parts.case, parts.running.machine)
     }
 }

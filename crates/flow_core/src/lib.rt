@@ -12,10 +12,10 @@ mod last_report;
 mod laws;
 mod letter;
 mod machine_calls;
-mod opening;
 mod reads_rates;
+mod running;
 
-pub use bare::{Bare, Issued};
+pub use bare::Bare;
 pub use book::{Book, EpochLine, Given, TicketLine};
 pub use book_flow::BookFlow;
 pub use case::{Case, Coded};
@@ -23,3 +23,4 @@ pub use cell::Cell;
 pub use cores::{Core, Ended, Stale, TakeFault};
 pub use flow_lists::{Outbox, REPORT_WORDS, ReservedList};
 pub use letter::{Letter, Words};
+pub use running::{Issued, Running};

@@ -9,5 +9,5 @@ returns c =
     let s = c.self.inside.state in
     let given = c.args.answer.now in
     c.first_bad.ensures
-    ∙ ap (λ (running : ℕ). bad_in s.programs.now running given) (present-same (driven_of s) s.parts s.link s.journal s.sums s.peak c.self.invariant)
+    ∙ ap (λ (running : ℕ). bad_in s.programs.now running given) (present-same (driven_of s) s.running s.link s.journal s.sums s.peak c.self.invariant)
     ∙ ap (λ (d : DrivenState). bad_in d.programs (present_of d) given) c.self.view_is

@@ -15,8 +15,8 @@ returns-clause-short c =
     let d = driven_of s in
     let is = c.self.invariant in
     let same = ap (λ (summary : Summary). summary.acks) is.stands in
-    let few = is.whole.range.acks in
+    let few = is.whole.acks in
     let most = s.case.acks_within in
     let within : length (world_by d).acks ≤ most_acks = omega (arith, same, few, most) in
-    subst (λ (told : Option Told). IfSome told IsShort) (sym (c.told_out.ensures ∙ told-same d s.parts s.link s.journal s.sums s.peak is))
+    subst (λ (told : Option Told). IfSome told IsShort) (sym (c.told_out.ensures ∙ told-same d s.running s.link s.journal s.sums s.peak is))
     (told-short d within)

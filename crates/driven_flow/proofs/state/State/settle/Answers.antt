@@ -13,7 +13,7 @@ returns-clause-is c =
     let j : Journal = c.put_answer.new.self in
     let same : (record d { answers = j.answers.items; word = j.word.items }) ≡ with_given given d =
     λ i. record d { answers = (c.put_answer.ensures i).answers.items; word = (c.put_answer.ensures i).word.items } in
-    subst (λ (d' : DrivenState). IsDriven d' c.settle.new.self s.link c.put_answer.new.self s.sums c.max-self.result) (sym same)
-    (driven-C d s.parts s.link s.journal s.sums s.peak c.requires.is given c.requires.may c.settle.new.self c.put_answer.new.self c.max-self.result
-    c.line_out-ticket.result c.line_begun-epoch.result c.settle.ensures.parts c.settle.ensures.step c.line_out-ticket.ensures c.line_begun-epoch.ensures
+    subst (λ (d' : DrivenState). IsDriven d' c.settle.new.running s.link c.put_answer.new.self s.sums c.max-self.result) (sym same)
+    (driven-C d s.running s.link s.journal s.sums s.peak c.requires.is given c.requires.may c.settle.new.running c.put_answer.new.self c.max-self.result
+    c.line_out-ticket.result c.line_begun-epoch.result c.settle.ensures.driven c.settle.ensures.step c.line_out-ticket.ensures c.line_begun-epoch.ensures
     c.put_answer.ensures (c.max-self.ensures ∙ ap (max s.peak) c.cwnd.ensures))

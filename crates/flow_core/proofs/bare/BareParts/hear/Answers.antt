@@ -1,41 +1,31 @@
-use Rattle.std.proofs.Common.{◌+◌, ap, sym, ◌∙◌, subst}
-use Rattle.reg_code.specs.declared.code.Code.{Code}
+use Rattle.std.proofs.Common.{◌+◌, sym, ◌∙◌, subst}
 use Rattle.fold_machine.specs.MachineState.{Fits}
 use Rattle.flow_core.specs.Cores.{acked_as}
-use Rattle.flow_core.specs.States.{outcome_by}
-use Rattle.flow_core.proofs.BareLemmas.{acked-by, met-kept, ran-kept, step-heard, is-heard}
+use Rattle.flow_core.specs.Readings.{by_code}
+use Rattle.flow_core.specs.Runnings.{running_by, outcome_for, instructions_for}
+use Rattle.flow_core.proofs.BareLemmas.{step-heard, is-heard}
 use Rattle.flow_core.proofs.bare.BareParts.hear.Goals as goal
+
+pub ack-requires-clause-fits : goal.ack-requires-clause-fits
+ack-requires-clause-fits g c = subst (Fits c.args.self.now.running.machine) (sym c.code.ensures) c.requires.parts.runs.fits
 
 pub returns-clause-parts : goal.returns-clause-parts
 returns-clause-parts g c =
-    let s = c.args.self.now in
-    let ack = c.args.ack.now in
-    let machine = c.run-acked.new.machine in
-    let met = sym (met-kept s c.requires.parts ack c.code-code.result.now.code c.room-room.result c.code-code.ensures c.room-room.ensures) ∙ c.run-acked.ensures.met in
-    is-heard s c.requires.parts ack (outcome_by c.run-acked.result machine.report) machine c.record_outcome.new.self met
-    c.run-acked.ensures.stopped c.run-acked.ensures.further c.record_outcome.ensures c.requires.left
-    (subst (λ (code : Code). Fits machine code) c.code-code.ensures c.run-acked.ensures.fits)
+    is-heard c.args.self.now c.requires.parts c.args.ack.now c.code.result.now.code c.code.ensures c.ack.new.self c.ack.ensures.step
+    c.requires.left c.ack.ensures.running c.ack.ensures.fits c.ack.ensures.size
 
 pub returns-clause-step : goal.returns-clause-step
 returns-clause-step g c =
-    let s = c.args.self.now in
-    let ack = c.args.ack.now in
-    let machine = c.run-acked.new.machine in
-    let met = sym (met-kept s c.requires.parts ack c.code-code.result.now.code c.room-room.result c.code-code.ensures c.room-room.ensures) ∙ c.run-acked.ensures.met in
-    step-heard s c.requires.parts ack (outcome_by c.run-acked.result machine.report) machine c.record_outcome.new.self met
-    c.run-acked.ensures.stopped c.run-acked.ensures.further c.record_outcome.ensures
+    step-heard c.args.self.now c.requires.parts c.args.ack.now c.code.result.now.code c.code.ensures c.ack.new.self c.ack.ensures.step
 
 pub returns-clause-acked : goal.returns-clause-acked
 returns-clause-acked g c =
     let s = c.args.self.now in
-    let ack = c.args.ack.now in
-    let machine = c.run-acked.new.machine in
-    let met = sym (met-kept s c.requires.parts ack c.code-code.result.now.code c.room-room.result c.code-code.ensures c.room-room.ensures) ∙ c.run-acked.ensures.met in
-    sym (acked-by c.run-acked.result machine.report) ∙ ap (λ m. acked_as m.0) (sym met)
+    c.ack.ensures.acked
+    ∙ (λ i. acked_as (outcome_for (by_code (c.code.ensures i)) (c.requires.parts.runs.size i) c.args.ack.now (running_by s.running)).0)
 
 pub returns-clause-steps : goal.returns-clause-steps
 returns-clause-steps g c =
     let s = c.args.self.now in
-    c.run-acked.ensures.steps
-    ∙ ap (λ n. c.args.steps.now + n)
-    (ran-kept s c.requires.parts c.args.ack.now c.code-code.result.now.code c.room-room.result c.code-code.ensures c.room-room.ensures)
+    c.ack.ensures.steps
+    ∙ (λ i. c.args.steps.now + instructions_for (c.code.ensures i) (c.requires.parts.runs.size i) c.args.ack.now (running_by s.running))

@@ -1,27 +1,19 @@
-use Rattle.flow_core.specs.Bares.{reports_in}
-use Rattle.flow_core.proofs.BareLemmas.{tells-some, is-taken, summary-taken}
+use Rattle.std.proofs.Common.{ap, arith}
+use Rattle.flow_core.specs.Readings.{code_at}
+use Rattle.flow_core.specs.Summaries.{summary_with}
+use Rattle.flow_core.proofs.RunningLemmas.{issued-same}
+use Rattle.flow_core.proofs.BareLemmas.{is-stepped}
 use Rattle.flow_core.proofs.bare.BareParts.issue.Goals as goal
-
-pub pop_content-requires-clause-some : goal.pop_content-requires-clause-some
-pop_content-requires-clause-some c =
-    let s = c.args.self.now in
-    tells-some s.machine.further s.outbox.slots s.outbox.untold c.requires.some
 
 pub returns-clause-parts : goal.returns-clause-parts
 returns-clause-parts c =
     let s = c.args.self.now in
-    let lies = c.requires.parts.lies in
-    let reports = reports_in s.machine.further s.outbox.slots in
-    let pop = c.pop_content.ensures in
-    is-taken s c.pop_content.new.machine c.pop_content.new.outbox c.pop_content.new.content pop.machine
-    (pop.told reports lies) (pop.lost_first reports lies) pop.untold
-    c.requires.parts c.requires.none_out c.requires.some pop.words pop.as_many pop.size
+    let parts = c.requires.parts in
+    let same = issued-same s.running c.issue.new.self c.issue.ensures.step in
+    let acks = same.1 in
+    let few = parts.acks in
+    is-stepped s parts c.issue.new.self c.issue.ensures.running same.0 (c.issue.ensures.fits (code_at s.case s.running.epoch.program) parts.runs.fits)
+    c.issue.ensures.size (omega (arith, acks, few))
 
 pub returns-clause-step : goal.returns-clause-step
-returns-clause-step c =
-    let s = c.args.self.now in
-    let lies = c.requires.parts.lies in
-    let reports = reports_in s.machine.further s.outbox.slots in
-    let pop = c.pop_content.ensures in
-    summary-taken s c.pop_content.new.machine c.pop_content.new.outbox c.pop_content.new.content pop.machine
-    (pop.told reports lies) (pop.lost_first reports lies) pop.untold
+returns-clause-step c = ap (summary_with c.args.self.now.agent) c.issue.ensures.step

@@ -1,7 +1,0 @@
-use Rattle.flow_core.proofs.BareLemmas.{can-tell}
-use Rattle.driven_flow.proofs.parts.Parts.can_take.Goals as goal
-
-pub returns : goal.returns
-returns c =
-    let s = c.args.self.now in
-    can-tell s.machine.further s.outbox.slots s.outbox.untold c.is_empty.result c.is_empty.ensures
