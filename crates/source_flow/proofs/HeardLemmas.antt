@@ -1,16 +1,17 @@
 -- What is kept after an acknowledgement is that of the state after it.
 use Rattle.std.specs.Prelude.{◌≡◌, ℕ, ◌+◌, List, [], ◌∷◌, ◌++◌, map, refl}
-use Rattle.std.proofs.Common.{add-zero, ap, sym, ◌∙◌, subst, append-nil}
+use Rattle.std.proofs.Common.{ap, sym, ◌∙◌, subst}
 use Rattle.ccp_base.specs.declared.ack.Ack.{Ack}
 use Rattle.ccp_base.specs.declared.place.Place.{Place}
 use Rattle.link_model.specs.Standing.{LinkState, Stands}
 use Rattle.portus_core.specs.declared.env.Env.{Env}
 use Rattle.portus_core.specs.Value.{Cause}
-use Rattle.portus_core.specs.Epoch.{Outcome, quiet, reported, held, failed, stopped, stops}
+use Rattle.portus_core.specs.Epoch.{Outcome, stops}
 use Rattle.flow_core.specs.Readings.{Flow}
 use Rattle.flow_core.specs.World.{Failure, World, track_of, failures_met, after_ack}
-use Rattle.flow_core.specs.Summaries.{Summary, step_outcome, outcome_at, step_ack}
-use Rattle.flow_core.specs.Bares.{step_note, step_machine, step_count}
+use Rattle.flow_core.specs.Runnings.{step_outcome, step_count}
+use Rattle.flow_core.specs.Summaries.{Summary, running_of, summary_with, on_running, outcome_at, step_ack}
+use Rattle.flow_core.proofs.RunningLemmas.{put-parts}
 use Rattle.flow_core.proofs.SummaryLemmas.{summary-ack}
 use Rattle.source_flow.specs.declared.source_case.SourceCase.{SourceCase}
 use Rattle.source_flow.specs.declared.state.State.{State}
@@ -18,15 +19,6 @@ use Rattle.source_flow.specs.SourceAccounts.{failure_of}
 use Rattle.source_flow.specs.SourceStates.{flow_over_sources, summary_in, IsAt}
 use Rattle.source_flow.specs.SourceSteps.{RecordsOutcome}
 use Rattle.source_flow.proofs.EpochLineLemmas.{epoch_lines-last}
-
--- an outcome's parts: the program has run, what comes of it is recorded, and the acknowledgement is counted
-outcome-parts : (flow : Flow Place) (ack : Ack) (outcome : Outcome Cause) (env : Env) (s : Summary)
-    → step_count ack (step_note flow ack outcome (step_machine (outcome, env) s)) ≡ step_outcome flow ack (outcome, env) s
-outcome-parts flow ack quiet env s = λ i. record (step_outcome flow ack (quiet, env) s) { waiting = sym (append-nil s.waiting) i; faults = sym (add-zero s.faults) i; held = sym (add-zero s.held) i }
-outcome-parts flow ack stopped env s = λ i. record (step_outcome flow ack (stopped, env) s) { waiting = sym (append-nil s.waiting) i; faults = sym (add-zero s.faults) i; held = sym (add-zero s.held) i }
-outcome-parts flow ack held env s = λ i. record (step_outcome flow ack (held, env) s) { waiting = sym (append-nil s.waiting) i; faults = sym (add-zero s.faults) i }
-outcome-parts flow ack (reported fields) env s = λ i. record (step_outcome flow ack (reported fields, env) s) { faults = sym (add-zero s.faults) i; held = sym (add-zero s.held) i }
-outcome-parts flow ack (failed fault) env s = λ i. record (step_outcome flow ack (failed fault, env) s) { waiting = sym (append-nil s.waiting) i; held = sym (add-zero s.held) i }
 
 module _ (source : SourceCase) (s : State) (link : LinkState) (ack : Ack) (outcome : Outcome Cause) (env spare : Env) (put : State)
     (met : outcome_at (flow_over_sources source) ack (summary_in s) ≡ (outcome, env)) where
@@ -43,9 +35,9 @@ module _ (source : SourceCase) (s : State) (link : LinkState) (ack : Ack) (outco
   module _ (down : RecordsOutcome source.case.now.flow between put ack outcome) where
     step-heard : summary_in final ≡ step_ack flow ack (summary_in s)
     step-heard =
-        ap (step_count ack) (down.step source)
-        ∙ outcome-parts flow ack outcome env (summary_in s)
-        ∙ ap (λ (m : Outcome Cause × Env). step_outcome flow ack m (summary_in s)) (sym met)
+        ap (on_running (step_count ack)) (down.step source)
+        ∙ ap (summary_with s.agent) (sym (put-parts flow.number flow.index ack outcome env (running_of (summary_in s))))
+        ∙ ap (λ (m : Outcome Cause × Env). on_running (step_outcome flow.number flow.index ack m) (summary_in s)) (sym met)
 
     -- the faults of an acknowledgement, by the summary before it
     abbrev failures_at : Summary → List (Failure Place)

@@ -10,7 +10,7 @@ use Rattle.agent_core.specs.declared.agent.Agent.{Agent}
 use Rattle.agent_core.specs.Agents.{course_of, replied}
 use Rattle.agent_core.specs.RoleLaws.{AreRoles}
 use Rattle.agent_core.proofs.ReplyLemmas.{roles-kept}
-use Rattle.flow_core.specs.declared.bare.Issued.{Issued}
+use Rattle.flow_core.specs.declared.running.Issued.{Issued}
 use Rattle.flow_core.specs.declared.book.TicketLine.{TicketLine}
 use Rattle.flow_core.specs.Readings.{Flow}
 use Rattle.flow_core.specs.World.{Failure, Taken, World, with_reply, answer_applied, after_answer, told_as}

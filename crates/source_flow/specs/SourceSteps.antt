@@ -13,13 +13,13 @@ use Rattle.portus_core.specs.OneAcknowledgement.{IsEnvOf}
 use Rattle.portus_core.specs.Epoch.{Outcome, heard, by_source, stops, track_at, with_values, declared_env}
 use Rattle.agent_core.specs.declared.agent.Agent.{Agent}
 use Rattle.agent_core.specs.Agents.{values_of}
-use Rattle.flow_core.specs.declared.bare.Issued.{Issued}
+use Rattle.flow_core.specs.declared.running.Issued.{Issued}
 use Rattle.flow_core.specs.declared.book.EpochLine.{EpochLine}
 use Rattle.flow_core.specs.declared.book.TicketLine.{TicketLine}
 use Rattle.flow_core.specs.World.{failures_met}
 use Rattle.flow_core.specs.States.{some_count}
-use Rattle.flow_core.specs.Summaries.{Summary, step_reply}
-use Rattle.flow_core.specs.Bares.{step_note}
+use Rattle.flow_core.specs.Runnings.{step_note}
+use Rattle.flow_core.specs.Summaries.{Summary, on_running, step_reply}
 use Rattle.source_flow.specs.declared.state.Present.{Present}
 use Rattle.source_flow.specs.declared.state.State.{State}
 use Rattle.source_flow.specs.declared.source_case.SourceCase.{SourceCase}
@@ -46,7 +46,7 @@ pub record RecordsOutcome (number : ℕ) (old new : State) (ack : Ack) (outcome 
   pub step :
       (source : SourceCase)
       → summary_in new
-      ≡ step_note (record (flow_over_sources source) { number = number }) ack outcome (summary_in old)
+      ≡ on_running (step_note number (flow_over_sources source).index ack outcome) (summary_in old)
   pub faults :
       map failure_of new.faults
       ≡ map failure_of old.faults
