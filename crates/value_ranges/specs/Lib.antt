@@ -1,0 +1,2 @@
+-- The definitions of value_ranges, a file each. Public contracts cite all.
+pub mod Ranges
