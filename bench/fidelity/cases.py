@@ -15,6 +15,10 @@ TOP = Path(__file__).resolve().parents[2]
 TRACES = TOP / "examples" / "traces"
 SEGMENT_BYTES = 1448
 TIMEOUT_US = 1_000_000
+# how long a host takes from an acknowledgement to a packet. In `ccp` that is no time, and chances and delays are whole
+# milliseconds: a packet would leave with the chance of the millisecond in which its acknowledgement came. Those of a
+# host come a little later, and wait for the next chance.
+HOST_US = 50
 ALGORITHMS = ("reno", "cubic")
 # the senders of `ccp` whose order is compared
 PAIRS = (("reno", "cubic"), ("linux-reno", "linux-cubic"))
@@ -56,6 +60,11 @@ class Case:
         """The members of this case that the figures of `ccp_tools.metrics` are computed with."""
         made = {"name": self.name, "trace": self.trace, "sender": sender, "mss": SEGMENT_BYTES, "queue": self.queue}
         return {**made, "delay_us": 1000 * self.delay_ms, "timeout_us": TIMEOUT_US, "acks": self.segments}
+
+    def model_case(self, sender: str) -> Dict[str, Any]:
+        """The same of a run in `ccp`, which has the time of a host as a part of the delay."""
+        made = self.scenario_case(sender)
+        return {**made, "delay_us": made["delay_us"] + HOST_US}
 
 
 @dataclass(frozen=True)

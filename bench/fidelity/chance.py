@@ -2,12 +2,13 @@
 
 from __future__ import annotations
 
-from typing import Any, List, Tuple
+from typing import Any, Iterator, List, Tuple
 
 import pandas as pd
 from ccp_tools import metrics
 
 from .cases import ALGORITHMS
+from .limits import Finding
 from .pages import SENDERS, table
 from .results import COLUMNS, OF_CHANCE
 
@@ -16,6 +17,8 @@ FIGURE = "throughput_mbps"
 HEADS = ["built-in", "like Linux", "ns-3", "Linux"]
 # the cells of a table: what the algorithms of one have in common
 CELL = ["rate", "delay_ms"]
+# how far the senders like Linux's may be from Linux: their throughput in per cent, CUBIC's lead in points
+PERCENT, POINTS = 5, 4
 
 
 def mean_text(values: pd.Series, form: str) -> str:
@@ -55,6 +58,24 @@ def leads(frame: pd.DataFrame) -> str:
             texts.append(mean_text((100 * (cubic / reno - 1)).dropna(), "%+.0f").replace("±+", "±"))
         rows.append([percent(cell[0]), str(cell[1]), *texts])
     return table(["lost by chance", "ms", *HEADS], rows)
+
+
+def findings(frame: pd.DataFrame, reference: str) -> Iterator[Finding]:
+    """The throughput of the senders like Linux's beside the reference's, and CUBIC's lead over Reno beside its."""
+    for cell in frame[CELL].drop_duplicates().itertuples(index=False):
+        place = "%s lost" % percent(cell[0]), int(frame["queue"].iloc[0]), cell[1]
+        ours = [figures_of(frame, cell, "ccp", "linux-" + algorithm) for algorithm in ALGORITHMS]
+        theirs = [figures_of(frame, cell, reference, algorithm) for algorithm in ALGORITHMS]
+        if any(one.empty for one in (*ours, *theirs)):
+            continue
+        for algorithm, own, other in zip(ALGORITHMS, ours, theirs):
+            apart = 100 * (own.mean() / other.mean() - 1)
+            limit = "losses by chance: throughput within %d %%" % PERCENT
+            yield Finding(limit, place, "linux-" + algorithm, "%+.1f %%" % apart, abs(apart) <= PERCENT)
+        lead, real = (100 * (cubic / reno - 1).mean() for reno, cubic in (ours, theirs))
+        limit = "losses by chance: CUBIC's lead of one sign and within %d points" % POINTS
+        holds = (lead < 0) == (real < 0) and abs(lead - real) <= POINTS
+        yield Finding(limit, place, "linux-reno and linux-cubic", "%+.1f beside %+.1f %%" % (lead, real), holds)
 
 
 def percent(rate: float) -> str:

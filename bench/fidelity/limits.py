@@ -3,7 +3,7 @@
 from __future__ import annotations
 
 from dataclasses import dataclass
-from typing import Any, Iterator, List
+from typing import Any, Iterator, List, Tuple
 
 import pandas as pd
 
@@ -21,6 +21,10 @@ RENO_FIGURES = {
 # losses of CUBIC: the greatest factor, on these traces with these queues
 CUBIC_FACTOR = 1.5
 CUBIC_TRACES, CUBIC_QUEUES = ("fixed", "wave"), (100, 250)
+# losses of CUBIC on the fixed link, and the throughput of both on `train`: the most distance in per cent from the range
+# of the reference's runs
+LOSSES_PERCENT = 10
+TRAIN_PERCENT = 3
 ORDER = "which of Reno and CUBIC waits longer"
 
 
@@ -62,6 +66,7 @@ def findings(frame: pd.DataFrame, reference: str, changes: pd.DataFrame | None =
     figures, made = Figures(frame), []
     for cell in cells_of(frame):
         made += [*reno_on_fixed(figures, cell, reference), *cubic_losses(figures, cell, reference)]
+        made += [*losses_on_fixed(figures, cell, reference), *throughput_on_train(figures, cell, reference)]
         made += list(orders(figures, cell, reference))
         if changes is not None:
             made += list(orders_of_means(figures, cell, reference, changes))
@@ -90,6 +95,43 @@ def cubic_losses(figures: Figures, cell: Any, reference: str) -> Iterator[Findin
     factor = max(own, other) / min(own, other) if min(own, other) else float("inf")
     limit = "CUBIC's losses within a factor of %g" % CUBIC_FACTOR
     yield Finding(limit, cell, "linux-cubic", "%.0f, %.0f" % (own, other), factor <= CUBIC_FACTOR)
+
+
+def losses_on_fixed(figures: Figures, cell: Any, reference: str) -> Iterator[Finding]:
+    """The losses of CUBIC on the fixed link with the sender like Linux's."""
+    if cell[0] == "fixed":
+        limit = "CUBIC's losses on `fixed` within %d %% of the range" % LOSSES_PERCENT
+        yield from beside_range(figures, cell, reference, "cubic", ("lost", "%.0f"), (limit, LOSSES_PERCENT))
+
+
+def throughput_on_train(figures: Figures, cell: Any, reference: str) -> Iterator[Finding]:
+    """The throughput on the link with gaps of both senders like Linux's."""
+    if cell[0] == "train":
+        limit = "throughput on `train` within %d %% of the range" % TRAIN_PERCENT
+        for algorithm in ("reno", "cubic"):
+            shown = "throughput_mbps", "%.2f"
+            yield from beside_range(figures, cell, reference, algorithm, shown, (limit, TRAIN_PERCENT))
+
+
+def beside_range(
+    figures: Figures, cell: Any, reference: str, algorithm: str, shown: Tuple[str, str], limit: Tuple[str, float]
+) -> Iterator[Finding]:
+    """A figure of the sender like Linux's beside the range of the reference's runs. `shown` is the figure and its form,
+    `limit` the limit's text and the most distance in per cent."""
+    sender = "linux-" + algorithm
+    if not (figures.has(reference, algorithm, cell) and figures.has("ccp", sender, cell)):
+        return
+    name, form = shown
+    ours = figures.of("ccp", sender, cell, name)
+    least, most = (figures.of(reference, algorithm, cell, name + end) for end in ("_least", "_most"))
+    value = "%s beside %s" % (form % ours, form % least if least == most else "%s to %s" % (form % least, form % most))
+    yield Finding(limit[0], cell, sender, value, abs(distance_of(ours, least, most)) <= limit[1])
+
+
+def distance_of(value: float, least: float, most: float) -> float:
+    """How far a value is from a range, in per cent of its nearer end: 0 within it, below 0 under it."""
+    end = min(max(value, least), most)
+    return 100 * (value / end - 1) if end else float("inf") if value else 0.0
 
 
 def orders(figures: Figures, cell: Any, reference: str) -> Iterator[Finding]:

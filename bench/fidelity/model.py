@@ -11,7 +11,7 @@ from ccp_tools import program, scenario, texts
 from ccp_tools.compare.cases import parts_of
 from ccp_tools.frames import acks_in, timeline_of
 
-from .cases import SEGMENT_BYTES, TIMEOUT_US, Case, Outcome
+from .cases import HOST_US, SEGMENT_BYTES, TIMEOUT_US, Case, Outcome
 
 # the senders of each algorithm
 SENDERS = {"reno": ("reno", "linux-reno"), "cubic": ("cubic", "linux-cubic")}
@@ -36,6 +36,7 @@ def scenario_of(cases: Sequence[Case]) -> Dict[str, Any]:
         for member in one["cases"]:
             # the name of a case may be longer than a scenario takes
             member["name"] = "%d-%s" % (number, member["sender"])
+            member["delay_us"] += HOST_US
         for name, value in one.items():
             if isinstance(value, dict):
                 made.setdefault(name, {}).update(value)

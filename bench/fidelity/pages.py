@@ -124,7 +124,7 @@ def first(pair: Tuple[str, str]) -> str:
 
 def sections(frame: pd.DataFrame, found: Sequence[Finding], changes: pd.DataFrame | None = None) -> Dict[str, str]:
     """The parts of pages that are made of the figures, by their names."""
-    made = {"grid": grid(frame, [100]), "limits": limits(found), "orders": orders(found, changes)}
+    made = {"grid": grid(frame, [100]), "orders": orders(found, changes)}
     return {**made, "before and after": before_and_after(frame)}
 
 

@@ -29,7 +29,8 @@ SLOW_START_US = 5_000_000
 def row_of(outcome: Outcome, version: str) -> Dict[str, Any]:
     """The row of a run."""
     case = outcome.case
-    of_case, link = case.scenario_case(outcome.sender), Link({"traces": {case.trace: case.trace_path.read_text()}})
+    of_case = (case.model_case if outcome.stack == "ccp" else case.scenario_case)(outcome.sender)
+    link = Link({"traces": {case.trace: case.trace_path.read_text()}})
     found = metrics.figures_of_acks(of_case, outcome.acks, link)
     after = metrics.figures_of_acks(of_case, outcome.acks, link, Window(SLOW_START_US))
     made = {"stack": outcome.stack, "version": version, "sender": outcome.sender, "run": outcome.run}

@@ -8,7 +8,7 @@ from typing import Dict, List
 
 from ccp_tools.errors import CcpError
 
-from . import chance, limits, pages, results, shares, spread
+from . import chance, limits, links, pages, results, shares, spread
 
 
 @dataclass
@@ -30,15 +30,24 @@ def kept_in(folder: Path) -> Kept:
         frame = results.read(folder / "results.csv")
         kept.found = limits.findings(frame, limits.reference_of(frame), changes)
         kept.made.update(pages.sections(frame, kept.found, changes))
-        kept.printed += [pages.grid(frame), kept.made["orders"], kept.made["limits"]]
+        kept.printed += [pages.grid(frame), kept.made["orders"]]
     if (folder / "chance.csv").exists():
         frame = results.read(folder / "chance.csv", chance.COLUMNS_OF_CHANCE)
         made = {"chance": chance.throughput(frame), "leads": chance.leads(frame)}
         kept.made.update(made)
         kept.printed += made.values()
+        kept.found += chance.findings(frame, limits.reference_of(frame))
     if (folder / "shares.csv").exists():
         kept.made["shares"] = shares.shares_table(results.read(folder / "shares.csv", shares.COLUMNS))
         kept.printed.append(kept.made["shares"])
+    if (folder / "links" / "served.csv").exists():
+        some, served = links.read(folder / "links"), links.read_served(folder / "links")
+        kept.made["links"] = links.served_table(some, served)
+        kept.printed.append(kept.made["links"])
+        kept.found += links.findings(some, served)
+    if kept.found:
+        kept.made["limits"] = pages.limits(kept.found)
+        kept.printed.append(kept.made["limits"])
     if not kept.printed:
         raise CcpError("%s: no results.csv or other figures of bench/fidelity are there" % folder)
     return kept
