@@ -19,7 +19,7 @@ from ..files import name_of, read_text
 from ..frames import AckFrame, Timeline, acks_in, read_timeline
 from ..metrics import SHOWN
 from ..scenario_files import read_run_scenario, scenario_of
-from . import over_time, packets, pages, points, shared_link
+from . import over_time, packets, pages, parameters, points, shared_link
 from .pages import FONT, MOST_SENDERS, SIZES, Look
 from .series import column
 
@@ -92,6 +92,10 @@ def add_arguments(parser: argparse.ArgumentParser) -> None:
     add = kind("scatter", "throughput over queueing delay, a panel a trace", figures, "METRICS")
     for axis, where, name in (("--x", "across", "queueing_p95_ms"), ("--y", "upwards", "throughput_mbps")):
         add(axis, type=metric, default=name, metavar="METRIC", help="the metric %s (%s)" % (where, name))
+    add = kind("lines", "a metric over a parameter, with intervals over seeds", figures, "METRICS")
+    add_axes(add, ("--x", "across"))
+    add = kind("heat", "a metric over two parameters, as colours", figures, "METRICS")
+    add_axes(add, ("--x", "across"), ("--y", "upwards"))
     what = "throughput, window, round-trip time and marks over time"
     add = kind("flows", what, "what `timeline` or `live` printed", "TIMELINE")
     add("--scenario", metavar="SCENARIO", help="its scenario, for the link's capacity and windows in segments")
@@ -111,7 +115,25 @@ def add_arguments(parser: argparse.ArgumentParser) -> None:
     add("--steps", type=whole(2, 1000), default=50, metavar="N", help=what)
 
 
+def add_axes(add: Callable[..., Any], *axes: Tuple[str, str]) -> None:
+    """Adds the metric of a plot over parameters, and the parameter of each axis."""
+    name = "throughput_mbps"
+    add("--metric", type=metric, default=name, metavar="METRIC", help="the metric that is shown (%s)" % name)
+    for axis, where in axes:
+        what = "the parameter %s: a column, as queue, or a control variable of --set" % where
+        more = " (the only one in which cases differ)" if len(axes) == 1 else ""
+        add(axis, metavar="COLUMN", required=len(axes) > 1, help=what + more)
+
+
 # ---- what is plotted
+
+
+def pages_of_parameters(arguments: argparse.Namespace) -> List[Figure]:
+    """Lines over a parameter, or heat maps over two."""
+    wanted = [arguments.x] if arguments.what == "lines" else [arguments.x, arguments.y]
+    found = parameters.surface_of(*metrics.read_figures(arguments.text), arguments.metric, wanted, arguments.text)
+    draw = parameters.lines if arguments.what == "lines" else parameters.heat
+    return draw(found, look_of(arguments))
 
 
 def pages_of_figures(arguments: argparse.Namespace) -> List[Figure]:
@@ -279,12 +301,14 @@ def shares_of_scenario(scenario: Mapping[str, Any], arguments: argparse.Namespac
     if len(names) > MOST_SENDERS:
         raise CcpError("%d flows: a plot of shares has at most %d" % (len(names), MOST_SENDERS))
     times, acked = shared_link.shared_runs(scenario, arguments.steps, arguments.ccp)
-    return shared_link.shares(names, times, acked, look)
+    return shared_link.shares(shared_link.flow_labels(scenario["cases"]), times, acked, look)
 
 
 PAGES: Dict[str, Callable[[argparse.Namespace], List[Figure]]] = {
     "bars": pages_of_figures,
     "scatter": pages_of_figures,
+    "lines": pages_of_parameters,
+    "heat": pages_of_parameters,
     "flows": pages_of_flows,
     "delay": pages_of_trips,
     "cdf": pages_of_trips,

@@ -16,6 +16,8 @@ from . import pages
 from .pages import MOST_PANELS, MOST_SENDERS, Look, chunks, line_look
 from .points import labels_of
 
+# in how many layers the dots of all senders are drawn, each layer with another sender on top
+LAYERS = 12
 # the shares at which a distribution is plotted
 SHARES = np.linspace(0, 1, 201)
 
@@ -100,6 +102,17 @@ def delay(flows: Sequence[Named], look: Look = Look(), until_s: float | None = N
     return made
 
 
+def draw_dots(panel: Axes, found: Sequence[Tuple[int, np.ndarray, np.ndarray]]) -> None:
+    """A dot for each packet of each sender: its number, the times and the values. Each layer has every LAYERS-th dot of
+    all senders, who take turns to be on top, so that none hides the others."""
+    for layer in range(LAYERS):
+        turn = layer % len(found)
+        for at, when, values in [*found[turn:], *found[:turn]]:
+            dots = {**line_look(at), "linestyle": "", "marker": ".", "markersize": 1.2}
+            # below the marks, so that all dots of a panel are drawn one after another, into one image
+            panel.plot(when[layer::LAYERS], values[layer::LAYERS], rasterized=True, zorder=1.9, **dots)
+
+
 def delay_row(over: Axes, beside: Axes, flows: Sequence[Named], senders: List[str], until_s: float | None) -> None:
     """Every packet is a dot. The dots are one image also in a vector file, which would be huge with them."""
     found = [(senders.index(one.sender), *trips_of(one.flow)) for one in flows]
@@ -108,11 +121,9 @@ def delay_row(over: Axes, beside: Axes, flows: Sequence[Named], senders: List[st
     found = [one for one in found if len(one[1])]
     if not found:
         return
+    draw_dots(over, found)
     for at, when, values in found:
         look, every = line_look(at), max(1, len(when) // 10)
-        dots = {**look, "linestyle": "", "marker": ".", "markersize": 1.6}
-        # below the marks, so that all dots of a panel are drawn one after another, into one image
-        over.plot(when, values, rasterized=True, zorder=1.9, **dots)
         marks = {**look, "linestyle": "", "markeredgecolor": "white", "markeredgewidth": 0.5}
         over.plot(when, values, markevery=(at * every // 8, every), **marks)
     draw_distributions(beside, ((at, values) for at, _, values in found), is_upright=True)

@@ -3,6 +3,7 @@
 from __future__ import annotations
 
 import math
+import os
 import re
 from dataclasses import dataclass
 from pathlib import Path
@@ -21,7 +22,7 @@ from matplotlib.textpath import TextPath
 from matplotlib.ticker import FuncFormatter, LogLocator, MaxNLocator, NullLocator
 
 from ..errors import CcpError
-from ..files import reason_of
+from ..files import name_of, reason_of
 
 Item = TypeVar("Item")
 STYLE, PAPER = (
@@ -45,6 +46,8 @@ METADATA: Dict[str, Dict[str, Any]] = {
     ".eps": {"Creator": "ccp"},
 }
 KINDS = tuple(METADATA)
+# the same as it stands in a file; a PDF has all pages in one
+MARKS = {".svg": b"<dc:title>ccp</dc:title>", ".png": b"Software\0ccp", ".eps": b"%%Creator: ccp"}
 
 
 @dataclass(frozen=True)
@@ -254,7 +257,7 @@ def kind_of_file(path: str | Path) -> str:
     """The ending of a plot's name, which has to be one of KINDS."""
     kind = Path(path).suffix
     if kind not in KINDS:
-        raise CcpError("%s: the name of a plot ends with .svg, .png, .pdf or .eps" % path)
+        raise CcpError("%s: the name of a plot ends with .svg, .png, .pdf or .eps" % name_of(path))
     return kind
 
 
@@ -273,6 +276,8 @@ def save(pages: Sequence[Figure], path: str | Path, look: Look) -> List[Path]:
     """Writes pages to a file, or to files with numbers where its kind has one page, and returns their names."""
     kind = kind_of_file(path)
     names = [page_path(path, number + 1) for number in range(1 if kind == ".pdf" else len(pages))]
+    for name in names[1:]:
+        check_further(name, kind)
     try:
         with matplotlib.rc_context(look.settings()):
             if kind == ".pdf":
@@ -286,8 +291,18 @@ def save(pages: Sequence[Figure], path: str | Path, look: Look) -> List[Path]:
                 if kind == ".svg":
                     add_fonts(name)
     except OSError as error:
-        raise CcpError("%s: %s" % (path, reason_of(error))) from None
+        raise CcpError("%s: %s" % (name_of(path), reason_of(error))) from None
     return names
+
+
+def check_further(path: Path, kind: str) -> None:
+    """Refuses the file of a further page, which no argument names, where there is one that isn't a plot of ccp."""
+    try:
+        is_made = not os.path.lexists(path) or not path.is_symlink() and MARKS[kind] in path.read_bytes()
+    except OSError as error:
+        raise CcpError("%s: %s" % (name_of(path), reason_of(error))) from None
+    if not is_made:
+        raise CcpError("%s: a further page has this name, and the file is no plot of ccp: move it" % name_of(path))
 
 
 def add_fonts(path: Path) -> None:

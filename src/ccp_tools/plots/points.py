@@ -2,6 +2,7 @@
 
 from __future__ import annotations
 
+import math
 import re
 import textwrap
 from dataclasses import dataclass
@@ -22,6 +23,8 @@ from . import pages
 from .pages import MOST_PANELS, MOST_SENDERS, Look, bar_look, chunks, line_look, mark_look
 
 MOST_BARS, MOST_GROUPS = 32, 16
+# how many bars, with the gaps between groups, take the width of a page at least
+LEAST_ACROSS = 5.0
 # what cases may differ in beside trace, sender and seed, and what stands for a case without it
 VARIED: Dict[str, Any] = dict(
     queue=None, delay_ms=None, mss=None, mark="none", loss="none", lag=0, slots=4, timeout_ms=None
@@ -88,12 +91,9 @@ def points_of(frame: pd.DataFrame, is_grouped: bool = False) -> Points:
     return Points(metrics.groups(cases, ["group", "sender"], list(known)), cases)
 
 
-def senders_of(frame: pd.DataFrame) -> List[str]:
-    """The senders of points in order; a file shows at most eight."""
-    found = list(frame["sender"].unique())
-    if len(found) > MOST_SENDERS:
-        raise CcpError("%d senders: a plot shows at most %d: plot parts of them" % (len(found), MOST_SENDERS))
-    return found
+def sender_parts(frame: pd.DataFrame) -> List[Sequence[str]]:
+    """The senders of points in order, in parts of as many as a panel tells apart."""
+    return chunks(list(frame["sender"].unique()), MOST_SENDERS)
 
 
 def check_metrics(points: Points, names: Iterable[str], what: str) -> None:
@@ -107,10 +107,17 @@ def check_metrics(points: Points, names: Iterable[str], what: str) -> None:
 
 
 def bars(points: Points, names: Sequence[str], look: Look = Look()) -> List[Figure]:
-    """The pages of bars: a panel a metric, with the groups side by side. A page holds as many groups as fit."""
-    frame, senders = points.frame, senders_of(points.frame)
+    """The pages of bars: a panel a metric, with the groups side by side. A page holds as many groups as fit, of at
+    most eight senders."""
+    frame = points.frame
     if frame.empty:
         raise CcpError("there is no case to plot")
+    parts = sender_parts(frame)
+    return [page for some in parts for page in bars_of(frame[frame["sender"].isin(some)], list(some), names, look)]
+
+
+def bars_of(frame: pd.DataFrame, senders: List[str], names: Sequence[str], look: Look) -> List[Figure]:
+    """The pages of bars of some senders."""
     counts = frame["group"].value_counts(sort=False)
     for size in range(min(MOST_GROUPS, len(counts)), 0, -1):
         parts = chunks(list(frame["group"].unique()), size)
@@ -137,8 +144,8 @@ def bar_page(frame: pd.DataFrame, senders: List[str], names: Sequence[str], look
     for panel, name in zip(panels, names):
         bar_panel(panel, frame, name, is_dense, look)
         panel.tick_params(axis="x", length=0)
-    # few bars stay narrow, with room beside them
-    room = max(0.0, look.width / (6 * look.points) - frame["at"].max() - 0.5) / 2
+    # one bar or two don't fill the page, with room beside them
+    room = max(0.0, LEAST_ACROSS - frame["at"].max() - 0.5) / 2
     limits = (-0.6 * gap - room, frame["at"].max() + 0.5 + 0.6 * gap + room)
     panels[-1].set(xticks=frame.groupby("place")["at"].mean(), xticklabels=labels, xlim=limits)
     return figure
@@ -165,7 +172,7 @@ def bar_panel(panel: Axes, frame: pd.DataFrame, name: str, is_dense: bool, look:
     wide = spreads > 0
     how = dict(fmt="none", color="black", capsize=0.3 * look.points, elinewidth=1)
     panel.errorbar(frame["at"][wide], values[wide], spreads[wide], **how)
-    decimals = 0 if most >= 100 else 1 if most >= 10 else 2
+    decimals = max(0, 2 - math.floor(math.log10(most)))
     for at, top, value, is_there in zip(frame["at"], values + spreads, values, known):
         text = " " * is_dense + ("%.*f" % (decimals, value) if is_there else "none")
         place = dict(ha="center", va="bottom", rotation=90 if is_dense else 0, fontsize=0.8 * look.points)
@@ -179,9 +186,16 @@ def bar_panel(panel: Axes, frame: pd.DataFrame, name: str, is_dense: bool, look:
 def scatter(
     points: Points, x: str = "queueing_p95_ms", y: str = "throughput_mbps", look: Look = Look()
 ) -> List[Figure]:
-    """The pages of a scatter: a panel a group. A delay axis is reversed, so that up and right is better."""
-    frame, made = points.frame, []
-    legend = {name: Line2D([], [], **mark_look(at)) for at, name in enumerate(senders_of(frame))}
+    """The pages of a scatter: a panel a group, with at most eight senders. A delay axis is reversed, so that up and
+    right is better."""
+    parts = sender_parts(points.frame)
+    return [page for some in parts for page in scatter_of(points, list(some), x, y, look)]
+
+
+def scatter_of(points: Points, senders: List[str], x: str, y: str, look: Look) -> List[Figure]:
+    """The pages of a scatter of some senders."""
+    frame, made = points.frame[points.frame["sender"].isin(senders)], []
+    legend = {name: Line2D([], [], **mark_look(at)) for at, name in enumerate(senders)}
     for part in chunks(list(frame["group"].unique()), MOST_PANELS):
         figure, panels = pages.titled_page(look, legend, part, SHOWN[y].label, 5.8)
         for panel, group in zip(panels, part):

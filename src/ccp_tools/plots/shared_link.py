@@ -60,6 +60,18 @@ def shared_runs(scenario: Mapping[str, Any], steps: int, path: str | None) -> Tu
     return times, np.array(rows, dtype=float)
 
 
+def flow_labels(cases: Sequence[Mapping[str, Any]]) -> List[str]:
+    """What a legend calls the flows on one link: their senders, where some start later with when each one starts, and
+    a number where two would be called the same."""
+    starts = [case.get("start_us", 0) / 1e6 for case in cases]
+    ends = [", from %g s" % start if any(starts) else "" for start in starts]
+    labels = [metrics.own_of(case)["sender"] + end for case, end in zip(cases, ends)]
+    return [
+        label if labels.count(label) == 1 else "%s (%d)" % (label, labels[: at + 1].count(label))
+        for at, label in enumerate(labels)
+    ]
+
+
 def shares(
     names: Sequence[str],
     times: Sequence[float],
@@ -144,7 +156,8 @@ def shares_of_acks(
         chances = chances_in(Link(scenario).trace(run.trace), edges)
         capacity = 8 * max(case["mss"] for case in scenario["cases"]) * chances / np.diff(edges)
         queue = waits_in(waits_of(acks, found), edges)
-    return shares(list(found["case"]), list(edges / 1e6), acked, look, capacity, active, queue)
+    names = flow_labels(scenario["cases"]) if scenario else list(found["case"])
+    return shares(names, list(edges / 1e6), acked, look, capacity, active, queue)
 
 
 def check_shares(found: pd.DataFrame, edges: np.ndarray) -> None:
