@@ -21,6 +21,12 @@ launcher=$here/tools/launcher
 if [ ! -d "$launcher" ]; then launcher=${here%/*}/libexec/ccp/launcher; fi
 # a folder that is a link, as /bin
 if [ ! -d "$launcher" ]; then here=$(cd -P "$here" && pwd) launcher=${here%/*}/libexec/ccp/launcher; fi
+for name in tables.sh texts.sh words.sh refusals.sh run.sh beside.sh pages.sh commands.sh start.py; do
+    if [ ! -r "$launcher/$name" ]; then
+        printf 'ccp: %s/%s is missing or can'\''t be read: install ccp again\n' "$launcher" "$name" >&2
+        exit 1
+    fi
+done
 # shellcheck source=tools/launcher/tables.sh
 . "$launcher/tables.sh"
 needs_search=''

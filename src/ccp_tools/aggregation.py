@@ -6,6 +6,7 @@ queues, marks, the lag of answers, and losses, where a packet is lost if one of 
 from __future__ import annotations
 
 import math
+from dataclasses import dataclass
 from typing import List, Sequence
 
 from .errors import CcpError
@@ -13,15 +14,37 @@ from .losses import Loss
 from .tables import LIMITS
 
 
-def times_of(times: Sequence[int], count: int, path: str) -> List[int]:
-    """The times of every `count`th chance. A trace whose chances aren't a multiple of `count` is repeated until they
-    are, so that its rate stays the same; where that takes longer than a trace may be, it is a CcpError."""
+# a trace of more packets than this isn't repeated: it would be longer than without aggregation
+MOST_REPEATED = 4096
+
+
+@dataclass(frozen=True)
+class Aggregated:
+    """The times of a trace of packets, in milliseconds, and how many chances at its end no packet of their own has."""
+
+    times: List[int]
+    left_over: int = 0
+
+
+def aggregated(times: Sequence[int], count: int, path: str) -> Aggregated:
+    """The times of every `count`th chance, with the same period.
+
+    A short trace whose chances aren't a multiple of `count` is repeated until they are, so that its rate stays exactly
+    the same. Of a longer one at most `count` - 1 chances at the end go with the last packet, so the rate is lower by
+    less than `count` in the number of chances. A trace of fewer chances than a packet needs, which would have to be
+    repeated for too long, is a CcpError that names the file at `path`."""
     turns = count // math.gcd(len(times), count)
-    if turns * times[-1] > LIMITS["trace_ms"]:
-        text = "%s: --aggregate %d needs %d turns of the trace, which are longer than %d ms: --cut MS shortens it"
-        raise CcpError(text % (path, count, turns, LIMITS["trace_ms"]))
-    all_times = [turn * times[-1] + time for turn in range(turns) for time in times]
-    return all_times[count - 1 :: count]
+    is_short = turns * len(times) <= MOST_REPEATED * count and turns * times[-1] <= LIMITS["trace_ms"]
+    if is_short:
+        repeated = [turn * times[-1] + time for turn in range(turns) for time in times]
+        return Aggregated(repeated[count - 1 :: count])
+    if len(times) < count:
+        text = "%s: --aggregate %d needs %d turns of its %d chances, which are longer than %d ms"
+        raise CcpError(text % (path, count, turns, len(times), LIMITS["trace_ms"]))
+    made = list(times[count - 1 :: count])
+    # the last packet leaves when the trace ends, so that the trace begins anew when it did
+    made[-1] = times[-1]
+    return Aggregated(made, len(times) % count)
 
 
 def packets_of(segments: int, count: int) -> int:
@@ -40,10 +63,3 @@ def share_lost(one: Loss, count: int) -> float | None:
         return one.rate
     # none is lost: the first segment comes through, and after each of the others no burst begins
     return round(1 - (1 - (one.rate or 0)) * (1 - one.chances[0]) ** (count - 1), 6)
-
-
-def needed(chances: int, most: int, count: int, mss: int) -> str:
-    """The option that makes at most `most` packets of so many chances of packets of `count` segments, as `, or
-    --aggregate 4`; the empty text where a packet would be too large."""
-    wanted = count * math.ceil(chances / most) if most > 0 else LIMITS["segment_bytes"]
-    return ", or --aggregate %d" % wanted if wanted * mss <= LIMITS["segment_bytes"] else ""

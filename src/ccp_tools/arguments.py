@@ -9,7 +9,7 @@ import sys
 from difflib import get_close_matches
 from typing import Any, Callable, List, NoReturn, Sequence, TypeVar
 
-from .errors import UsageError
+from .errors import UsageError, one_line
 
 Value = TypeVar("Value")
 Parse = Callable[[str], Value]
@@ -35,10 +35,24 @@ class Parser(argparse.ArgumentParser):
         found = re.match(r"unrecognized arguments: (--[^ =]+)", message)
         if found:
             known = [name for name, action in self._option_string_actions.items() if action.help != argparse.SUPPRESS]
-            near = [name for name in known if name.startswith(found[1])] or get_close_matches(found[1], known, 1)
+            near = [name for name in known if name.startswith(found[1])] or likely(found[1], known)
             message += " (did you mean %s?)" % near[0] if near else ""
             message += " (%s --help lists the options)" % self.prog
         raise UsageError(message.replace("\n", " "))
+
+
+def likely(option: str, known: Sequence[str]) -> List[str]:
+    """The option that a user likely meant, if there is one. The dashes, which all have, don't count."""
+    words = {name.lstrip("-"): name for name in known}
+    return [words[word] for word in get_close_matches(option.lstrip("-"), words, 1)]
+
+
+def group_of(parser: argparse.ArgumentParser, title: str) -> argparse._ArgumentGroup:
+    """The group of options with a title in a parser's help, which is made where there is none."""
+    for group in parser._action_groups:
+        if group.title == title:
+            return group
+    return parser.add_argument_group(title)
 
 
 # ---- values
@@ -164,7 +178,7 @@ def deprecated(parser: argparse._ActionsContainer, old: str, new: str) -> None:
 
 def warn(text: str) -> None:
     """Prints a warning on standard error."""
-    print("ccp: warning: %s" % text, file=sys.stderr, flush=True)
+    print("ccp: warning: %s" % one_line(text), file=sys.stderr, flush=True)
 
 
 def one_of(words: Sequence[str]) -> str:

@@ -12,45 +12,64 @@ from __future__ import annotations
 import argparse
 import gc
 import os
+import shlex
 import stat
 import sys
 import time
+from contextlib import suppress
 from importlib import import_module
-from typing import List, Sequence
+from typing import Callable, List, Sequence
 
 from .arguments import Parser
-from .errors import CcpError, UsageError
-from .interrupts import Ended, caught_signals
+from .errors import CcpError, UsageError, cut, one_line
+from .interrupts import Ended, caught_signals, deferred_interrupts
 from .tables import COMMANDS, PACKAGES
 
 
 def main(arguments: Sequence[str]) -> int:
     """Runs a command, and returns its exit status."""
     words = list(arguments)
+    name = words[0] if words and words[0] in COMMANDS else ""
+    return run_guarded("ccp %s" % name if name else "ccp", lambda: dispatch(words))
+
+
+def run_guarded(name: str, work: Callable[[], int]) -> int:
+    """Does the work of a command, and returns its exit status: whatever ends it becomes a line for its user, which
+    begins with `name`."""
     open_streams()
     try:
         with caught_signals():
-            return status_of(words)
+            return status_of(name, work)
     except Ended as ended:
         return ended.status
     except KeyboardInterrupt:
         return 130
+    finally:
+        flush_output()
 
 
-def status_of(words: List[str]) -> int:
-    """Runs a command; whatever ends it becomes a line for its user and an exit status."""
-    name = words[0] if words and words[0] in COMMANDS else ""
+def flush_output() -> None:
+    """Writes what is left of the output. What can't be written is dropped, so that the end of the process doesn't meet
+    it again."""
     try:
-        status = dispatch(words)
+        sys.stdout.flush()
+    except OSError:
+        drop_output()
+
+
+def status_of(name: str, work: Callable[[], int]) -> int:
+    """Does the work of a command; whatever ends it but a signal becomes a line for its user and an exit status."""
+    try:
+        status = work()
         sys.stdout.flush()
         return status
     except CcpError as error:
         complain(name, str(error))
-        return error.status
+        return error.status or 1
     except BrokenPipeError:
         return leave_pipe()
     except ModuleNotFoundError as error:
-        complain(name, missing_text([(error.name or str(error)).split(".")[0]]))
+        complain(name, missing_text(missing_modules(name) or [(error.name or str(error)).split(".")[0]]))
         return 1
     except RecursionError:
         complain(name, "the input is nested too deeply")
@@ -61,21 +80,43 @@ def status_of(words: List[str]) -> int:
     except OSError as error:
         if closes_output(error):
             return leave_pipe()
-        complain(name, ": ".join(str(part) for part in (error.filename, error.strerror or error) if part))
+        complain(name, "%s: %s" % (place_of(error), error.strerror or error))
         return 1
 
 
+def place_of(error: OSError) -> str:
+    """What an error of the system is about: a file, or, where it has no name, what was being written."""
+    return cut(str(error.filename)) if error.filename else "the output can't be written"
+
+
 def open_streams() -> None:
-    """Gives a closed stream a place where nothing is read or written, so that no command meets one that isn't there."""
-    for name, mode in (("stdin", "r"), ("stdout", "w"), ("stderr", "w")):
+    """Gives a closed stream a place where nothing is read and nothing can be written, so that no file that is opened
+    later takes its descriptor. Errors that nobody can see may be written."""
+    for name, mode, flag in (("stdin", "r", os.O_RDONLY), ("stdout", "w", os.O_RDONLY), ("stderr", "w", os.O_WRONLY)):
         if getattr(sys, name) is None:
-            setattr(sys, name, open(os.devnull, mode, encoding="utf-8"))
+            setattr(sys, name, open(os.open(os.devnull, flag), mode, encoding="utf-8"))
+
+
+def missing_modules(name: str) -> List[str]:
+    """The modules that this interpreter lacks and a command uses, whose name may have `ccp` before it. What is no
+    command uses none."""
+    from importlib.util import find_spec
+
+    command = COMMANDS.get(name.rpartition(" ")[2])
+    return [module for module in command.modules if find_spec(module) is None] if command else []
 
 
 def missing_text(names: Sequence[str]) -> str:
-    """What a user can do about modules of Python that aren't there."""
-    packages = [PACKAGES[name] for name in names if name in PACKAGES]
-    more = ": tools/install, or apt-get install %s" % " ".join(packages) if packages else ""
+    """What a user can do about modules of Python that aren't there. In a virtual environment pip installs them, but in
+    the one of a checkout, which sees Debian's."""
+    from .program import checkout
+
+    known = [name for name in names if name in PACKAGES]
+    if sys.prefix != sys.base_prefix and not checkout():
+        more = ": %s -m pip install %s" % (shlex.quote(sys.executable), " ".join(known))
+    else:
+        more = ": tools/install, or apt-get install %s" % " ".join(PACKAGES[name] for name in known)
+    more = more if known else ""
     return "%s has no module %s%s" % (sys.executable, ", ".join(names), more)
 
 
@@ -86,15 +127,21 @@ def closes_output(error: OSError) -> bool:
 
 def leave_pipe() -> int:
     """Ends silently where nobody reads on: what is left of the output goes nowhere."""
-    os.dup2(os.open(os.devnull, os.O_WRONLY), sys.stdout.fileno())
+    drop_output()
     return 141
 
 
+def drop_output() -> None:
+    """Has all that is left of the output go nowhere."""
+    os.dup2(os.open(os.devnull, os.O_WRONLY), sys.stdout.fileno())
+
+
 def complain(name: str, text: str) -> None:
-    """Prints an error as one line on standard error."""
-    line = " ".join(text.split("\n"))
+    """Prints an error as one line on standard error, which begins with `name`. Where that can't be written, the exit
+    status alone says it."""
     await_pager()
-    print("ccp%s: %s" % (" " + name if name else "", line), file=sys.stderr, flush=True)
+    with suppress(OSError):
+        print("%s: %s" % (name, one_line(text)), file=sys.stderr, flush=True)
 
 
 def await_pager() -> None:
@@ -111,7 +158,7 @@ def await_pager() -> None:
             return
         # the pager waits for the end of its input
         sys.stdout.flush()
-        os.dup2(os.open(os.devnull, os.O_WRONLY), sys.stdout.fileno())
+        drop_output()
         while not termios.tcgetattr(sys.stderr.fileno())[3] & termios.ICANON:
             time.sleep(0.1)
     except (OSError, ValueError, termios.error):
@@ -128,10 +175,12 @@ def dispatch(words: List[str]) -> int:
         print(version_line())
         return 0
     if words[0] not in COMMANDS:
-        raise UsageError("%s is no command: the commands are %s" % (words[0], ", ".join(COMMANDS)))
+        raise UsageError("%s is no command: the commands are %s" % (cut(words[0]), ", ".join(COMMANDS)))
     # what is imported stays, and to look for garbage in it meanwhile takes a tenth of the time
     gc.disable()
-    module = import_module("." + COMMANDS[words[0]].module, __package__)
+    # an interrupt within the import of numpy would be an ImportError
+    with deferred_interrupts():
+        module = import_module("." + COMMANDS[words[0]].module, __package__)
     gc.enable()
     parser = parser_of(words[0], module.__doc__ or "", module)
     try:

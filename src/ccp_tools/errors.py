@@ -1,6 +1,13 @@
 """The errors of this package. Each is one line of text for the user, and knows the exit status that it ends with."""
 from __future__ import annotations
 
+import re
+
+# the most bytes of a name or of a user's text that a message shows
+MOST_SHOWN = 200
+# what would end a line of a terminal or change how it shows the rest
+CONTROL = re.compile("[\x00-\x1f\x7f-\x9f\u2028\u2029]")
+
 
 class CcpError(Exception):
     """What is wrong, in one line for the user. `status` is the exit status of a command that ends with it."""
@@ -41,3 +48,19 @@ class Failed(CcpError):
         line = line.strip()
         super().__init__(line or "ccp ended with status %d" % ended, ended)
         self.line = line
+
+
+def cut(text: str, most: int = MOST_SHOWN) -> str:
+    """A name or a text of the user as a message shows it: whole, or in at most `most` bytes its beginning and end."""
+    data = text.encode("utf-8", "surrogatepass")
+    if len(data) <= most:
+        return text
+    half = (most - 4) // 2
+    return data[:half].decode("utf-8", "ignore") + " .. " + data[-half:].decode("utf-8", "ignore")
+
+
+def one_line(text: str) -> str:
+    """A message as one line of a terminal: line ends and tabs become blanks, other control characters are escaped, and
+    words are cut."""
+    flat = CONTROL.sub(lambda found: "\\x%02x" % ord(found[0]), re.sub("[\t\n\r]", " ", text))
+    return re.sub(r"\S{%d,}" % (MOST_SHOWN // 4), lambda found: cut(found[0]), flat)

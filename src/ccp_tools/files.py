@@ -1,20 +1,27 @@
-"""Reads files whole, with errors that name the file and say what is wrong with it. A path `-` is standard input."""
+"""Reads files whole, and writes them, with errors that name the file and say what is wrong with it. A path `-` is
+standard input."""
 from __future__ import annotations
 
 import codecs
+import errno
+import fcntl
 import io
+import os
 import sys
 from contextlib import contextmanager
 from pathlib import Path
 from typing import IO, Iterator, Union
 
-from .errors import CcpError
+from .errors import CcpError, cut
 
 PathLike = Union[str, Path]
 
 # the most bytes of a file that is read whole: a longer one, or one without an end, would take all memory
 MOST_BYTES = 1 << 30
 PIECE = 1 << 20
+
+# how a file system says that it has no locks
+NO_LOCKS = (errno.ENOLCK, errno.ENOSYS, errno.ENOTSUP, errno.EOPNOTSUPP)
 
 # what files begin with that people take for texts
 BEGINNINGS = [
@@ -36,7 +43,7 @@ BEGINNINGS = [
 
 def name_of(path: PathLike) -> str:
     """How a message names a file."""
-    return "standard input" if str(path) == "-" else str(path)
+    return "standard input" if str(path) == "-" else cut(str(path))
 
 
 def what_is(data: bytes) -> str | None:
@@ -122,12 +129,104 @@ def open_bytes(path: PathLike) -> io.BufferedReader:
     except OSError as error:
         raise CcpError("%s: %s" % (name_of(path), reason_of(error))) from None
     except ValueError:  # a path with a byte 0
-        raise CcpError("%r: no name of a file" % str(path)) from None
+        raise CcpError("%r: no name of a file" % cut(str(path))) from None
+
+
+class Begun:
+    """An open file whose first bytes were read already."""
+
+    def __init__(self, beginning: bytes, file: IO[bytes]) -> None:
+        self.beginning, self.file = beginning, file
+
+    def read(self, size: int = -1) -> bytes:
+        """At most `size` bytes, or all where it is negative, the beginning first."""
+        count = len(self.beginning) if size < 0 else size
+        given, self.beginning = self.beginning[:count], self.beginning[count:]
+        return given + self.file.read(size if size < 0 else size - len(given))
+
+
+# ---- writing
+
+
+@contextmanager
+def named_errors(path: PathLike) -> Iterator[None]:
+    """Has an error of the system inside be a CcpError that names the file at `path`."""
+    try:
+        yield
+    except OSError as error:
+        raise CcpError("%s: %s" % (name_of(path), reason_of(error))) from None
 
 
 def write_text(path: PathLike, text: str) -> None:
     """Writes a text file; a path that can't be written is a CcpError."""
+    write_bytes(path, text.encode("utf-8", "surrogateescape"))
+
+
+def write_bytes(path: PathLike, data: bytes) -> None:
+    """Writes a file; a path that can't be written is a CcpError."""
+    with named_errors(path):
+        Path(path).write_bytes(data)
+
+
+def append_text(path: PathLike, text: str) -> None:
+    """Adds a text to the end of a text file; a path that can't be written is a CcpError."""
+    with named_errors(path), open(path, "a", encoding="utf-8", errors="surrogateescape") as file:
+        file.write(text)
+
+
+def replace_text(path: PathLike, text: str) -> None:
+    """Writes a text file beside `path` and moves it there, so that the file is the old one or the new one whole."""
+    path = Path(path)
+    beside = path.with_name(path.name + ".new")
+    with named_errors(path):
+        try:
+            beside.write_text(text, encoding="utf-8", errors="surrogateescape")
+            os.replace(beside, path)
+        except OSError:
+            beside.unlink(missing_ok=True)
+            raise
+
+
+# ---- folders
+
+
+@contextmanager
+def locked(folder: Path, name: str, what: str) -> Iterator[None]:
+    """Keeps other processes out of a folder, which another one that has it refuses at once: a CcpError says that
+    `what` uses it. The lock is the file `name` in the folder, which goes at the end. It belongs to this process alone,
+    so neither a process that it begins nor one that was killed keeps it."""
+    path = folder / name
+    with named_errors(path):
+        file = lock_file(path)
+    if file is None:
+        raise CcpError(
+            "%s: another %s uses this folder: wait for its end, or name another folder" % (name_of(folder), what)
+        )
     try:
-        Path(path).write_text(text, encoding="utf-8", errors="surrogateescape")
-    except OSError as error:
-        raise CcpError("%s: %s" % (path, reason_of(error))) from None
+        yield
+    finally:
+        path.unlink(missing_ok=True)
+        os.close(file)
+
+
+def lock_file(path: Path) -> int | None:
+    """The locked file at a path, or None where another process has the lock. A link is never followed. On a file
+    system without locks the file is there all the same."""
+    while True:
+        file = os.open(path, os.O_RDWR | os.O_CREAT | os.O_NOFOLLOW, 0o666)
+        try:
+            fcntl.lockf(file, fcntl.LOCK_EX | fcntl.LOCK_NB)
+            # the process that had it may have removed it meanwhile
+            if os.path.samestat(os.fstat(file), os.stat(path, follow_symlinks=False)):
+                return file
+        except (BlockingIOError, PermissionError):
+            os.close(file)
+            return None
+        except FileNotFoundError:
+            pass
+        except OSError as error:
+            if error.errno in NO_LOCKS:
+                return file
+            os.close(file)
+            raise
+        os.close(file)

@@ -23,10 +23,12 @@ from typing import IO, Any, Dict, Iterable, Iterator, List, Mapping, Sequence, T
 import numpy as np
 import pandas as pd
 
+from . import parts as splitting
 from . import program, texts
-from .errors import BadText
-from .program import Given
-from .tables import COLUMNS, PRIMITIVES
+from .errors import BadText, Failed
+from .scenario_files import GivenScenario, given_scenario, scenario_of
+from .spans import Window
+from .tables import COLUMNS, LIMITS, PRIMITIVES
 
 Source = Union[str, bytes, IO[str], IO[bytes]]
 
@@ -37,6 +39,8 @@ NUMBERS_ALONE = bytes(byte if byte in DIGITS else 32 for byte in range(256))
 LINK_LINE = b"link " + b" ".join(name.encode() + rb"=[0-9]{1,20}" for name in texts.LINK)
 # bytes of a file that are read at once
 PIECE = 1 << 23
+# what was said on standard error, which is said once
+SAID: List[str] = []
 # the greatest value of a primitive, which is also what numpy makes of a greater one
 GREATEST = 2**64 - 1
 
@@ -323,37 +327,65 @@ def text_of(source: Source) -> Any:
     return source
 
 
-# ---- runs
+# ---- runs: a scenario is a dict, its text, or the path of its file (scenario_files.given_scenario)
 
 
-def run_campaign(scenario: Given, **options: Any) -> pd.DataFrame:
-    """The table that `campaign` prints of a scenario (a dict or a text), as read_table has it. Options are those of
-    program.run, as workers=4 or program=PATH. Errors: CcpError."""
-    return pd.DataFrame(program.run_table(scenario, **options).rows, columns=COLUMNS)
+def run_campaign(scenario: GivenScenario, **options: Any) -> pd.DataFrame:
+    """The table that `campaign` prints of a scenario, as read_table has it. Options are those of program.run, as
+    workers=4 or program=PATH. Errors: CcpError."""
+    return pd.DataFrame(program.run_table(given_scenario(scenario), **options).rows, columns=COLUMNS)
 
 
-def acks(scenario: Given, mode: str = "acks", **options: Any) -> pd.DataFrame:
-    """The acknowledgements that `acks` or `shared-acks` prints of a scenario (a dict or a text), as read_acks has them.
-    Options are those of program.run. Errors: CcpError."""
-    return read_acks(program.run(mode, scenario, **program.with_workers(mode, options)).output)
-
-
-def timeline(scenario: Given, mode: str = "timeline", **options: Any) -> Timeline:
-    """What `timeline` or `shared-timeline` prints of a scenario (a dict or a text), as frames. Options are those of
-    program.run. Errors: CcpError."""
-    return read_timeline(program.run(mode, scenario, **program.with_workers(mode, options)).output)
-
-
-def figures(
-    scenario: Mapping[str, Any], until_s: float | None = None, begin_s: float = 0, **options: Any
-) -> pd.DataFrame:
-    """The figures of each case of a scenario, as metrics.figures has them: it runs `campaign`, `timeline` and `acks`.
-    The figures are over the time after `begin_s` up to `until_s`, in seconds, or to each case's end. Options are those
+def acks(scenario: GivenScenario, mode: str = "acks", **options: Any) -> pd.DataFrame:
+    """The acknowledgements that `acks` or `shared-acks` prints of a scenario, as read_acks has them. Options are those
     of program.run. Errors: CcpError."""
+    return read_acks(program.run(mode, given_scenario(scenario), **program.with_workers(mode, options)).output)
+
+
+def timeline(scenario: GivenScenario, mode: str = "timeline", **options: Any) -> Timeline:
+    """What `timeline` or `shared-timeline` prints of a scenario, as frames. Options are those of program.run. Errors:
+    CcpError."""
+    return read_timeline(program.run(mode, given_scenario(scenario), **program.with_workers(mode, options)).output)
+
+
+def figures(scenario: GivenScenario, until_s: float | None = None, begin_s: float = 0, **options: Any) -> pd.DataFrame:
+    """The figures of each case of a scenario, as metrics.figures has them: it runs `campaign`, `timeline` and `acks`.
+    The figures are over the time after `begin_s` up to `until_s`, in seconds, or to each case's end. A scenario that
+    one run doesn't take, as of more than 64 cases, is run in parts, which a line on standard error says once. Options
+    are those of program.run. Errors: CcpError."""
     from . import metrics
 
     window = metrics.Window(round(begin_s * 1e6), None if until_s is None else round(until_s * 1e6))
-    table = program.run_table(scenario, **options)
-    printed = program.run("acks", scenario, **program.with_workers("acks", options)).output
-    reports = timeline(scenario, **options)
-    return metrics.figures(scenario, table=table, timeline=reports, acks=acks_in(printed), window=window)
+    given = given_scenario(scenario)
+    data = program.input_bytes(given)
+    parts = splitting.parts_of(data, "metrics", LIMITS["cases"])
+    if len(parts) == 1:
+        return figures_of_run(data, window, options)
+    members = scenario_of(data.decode("utf-8", "surrogateescape"))
+    if not SAID:
+        say_parts(len(members["cases"]), len(parts))
+    found = []
+    for part in parts:
+        try:
+            found.append(figures_of_run(part.text.encode("utf-8", "surrogateescape"), window, options))
+        except Failed as error:
+            raise Failed(error.status, splitting.in_whole(error.line, part.first)) from None
+    columns = [*metrics.columns_of(members)[0], *metrics.METRICS, "doubts"]
+    return pd.concat(found, ignore_index=True).reindex(columns=columns)
+
+
+def figures_of_run(data: bytes, window: Window, options: Mapping[str, Any]) -> pd.DataFrame:
+    """The figures of the cases of a scenario that one run takes."""
+    from . import metrics
+
+    table = program.run_table(data, **options)
+    printed = program.run("acks", data, **program.with_workers("acks", options)).output
+    reports = timeline(data, **options)
+    members = scenario_of(data.decode("utf-8", "surrogateescape"))
+    return metrics.figures(members, table=table, timeline=reports, acks=acks_in(printed), window=window)
+
+
+def say_parts(cases: int, parts: int) -> None:
+    """Says on standard error that a scenario is run in parts, and not again for another one."""
+    SAID.append("parts")
+    program.note("ccp_tools.figures: %d cases are more than one run takes: they are run in %d parts" % (cases, parts))

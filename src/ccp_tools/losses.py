@@ -2,6 +2,7 @@
 from __future__ import annotations
 
 import argparse
+import bisect
 import random
 import re
 from typing import Callable, Dict, List, Sequence, Tuple
@@ -22,7 +23,8 @@ class Loss:
         self.numbers = list(numbers)
         self.chances = list(chances)
         self.seed = seed
-        self.kept: Dict[Tuple[int, int], List[int]] = {}
+        # by seed, how many packets were drawn and which of them are lost
+        self.kept: Dict[int, Tuple[int, List[int]]] = {}
 
     @property
     def rate(self) -> float | None:
@@ -35,13 +37,14 @@ class Loss:
         """The numbers of lost packets below a count. Equal seeds draw the same packets."""
         if not self.chances or seed is None:
             return self.numbers
-        if (seed, count) not in self.kept:
+        if seed not in self.kept or self.kept[seed][0] < count:
             draw = random.Random(seed).random
             if len(self.chances) == 1:
-                self.kept[seed, count] = by_chance(draw, count, self.chances[0])
+                self.kept[seed] = count, by_chance(draw, count, self.chances[0])
             else:
-                self.kept[seed, count] = in_bursts(draw, count, *self.chances)
-        return self.kept[seed, count]
+                self.kept[seed] = count, in_bursts(draw, count, *self.chances)
+        lost = self.kept[seed][1]
+        return lost[: bisect.bisect_left(lost, count)]
 
 
 def by_chance(draw: Callable[[], float], count: int, share: float) -> List[int]:

@@ -2,6 +2,7 @@
 
     ccp metrics SCENARIO TEXT.. [--until S] [--from S] [--window-ms W] [--by COLUMNS] [--columns COLUMNS]
                                 [--format csv|json|parquet]
+    ccp metrics SCENARIO --means [--until S] [--from S] [--by COLUMNS] ..
     ccp metrics SCENARIO --orders all|N [--changes N] [--by COLUMNS] ..
 
     ccp campaign scenario.json > table.txt
@@ -18,6 +19,12 @@ runs, or of another scenario, are errors.
 different lengths are comparable; --from S leaves out what came before, as slow start. --by groups cases by columns: for
 each combination of their values and each figure it writes the number of cases that have it, their mean, their standard
 deviation, and half of the 95 % interval of the mean by Student's t. --columns selects columns, and with --by figures.
+
+--means runs a scenario of any number of cases itself, and writes the figures that counts and means are enough for,
+about 16 times as fast as from acknowledgements: its programs measure themselves. Percentiles, the window and the
+first loss stay empty.
+
+    ccp metrics scenario.json --means --until 10 --by sender --columns throughput_mbps,queueing_mean_ms
 
 --orders runs a scenario of `shared` itself, in all orders of its flows or in N of them, and with --changes N each order
 with N small changes: the queue by up to three packets, each delay by up to 3 ms. A line is that of a flow in a run, and
@@ -36,26 +43,26 @@ sender that you mean. docs/metrics.md defines each figure by its formula, its un
 from __future__ import annotations
 
 import argparse
-import functools
 import io
 import json
+import math
 import sys
 from contextlib import contextmanager
-from dataclasses import dataclass
+from dataclasses import asdict, dataclass
 from pathlib import Path
 from typing import IO, Any, Dict, Iterable, Iterator, List, Mapping, Sequence, Tuple
 
 import numpy as np
 import pandas as pd
 
-from . import orders, shares, slow_start, texts
+from . import orders, probe, shares, slow_start, texts
 from .arguments import add_ccp, list_of, warn, whole
 from .errors import BadText, CcpError, UsageError
-from .files import MOST_BYTES, checked_length, name_of, reason_of
+from .files import MOST_BYTES, Begun, checked_length, name_of, reason_of
 from .frames import AckFrame, Timeline, acks_in, joined, timeline_of
 from .scenario_files import read_run_scenario
 from .shares import jain
-from .traces import Trace, trace_times
+from .spans import Link, SharedRun, Window, bounds_of, divided, of_counts
 
 OWN = "case trace sender agent ss ca mss queue delay_ms timeout_ms slots lag mark loss rate seed".split()
 READ = {"name", "delay_us", "timeout_us", "acks", "losses", "cwnd", "steps"}
@@ -67,6 +74,8 @@ FIGURES = (
 ).split()
 METRICS = COUNTS + FIGURES
 PERCENTILES = (50, 95, 99)
+# a smaller value is shown with an exponent
+MOST_DECIMALS = 7
 # spans that differ by more than this share aren't those of one measurement
 SAME_SPAN = 0.01
 
@@ -80,6 +89,19 @@ class Figure:
     factor: float = 1
     decimals: int = 2
     is_more: bool = False
+
+    def text(self, value: float, half: float | None = None) -> str:
+        """A value as tables show it, with half of its interval: at least three significant digits, also of a small one,
+        and 0 where nothing is rounded."""
+        mean, spread = value * self.factor, (half or 0) * self.factor
+        size = max(abs(mean), 0.0) or abs(spread)
+        if not size or size != size:
+            return "0" if half is None else "0 ±0"
+        decimals = max(self.decimals, 2 - math.floor(math.log10(size)))
+        if decimals > MOST_DECIMALS:
+            return "%.2e" % mean if half is None else "%.2e ±%.2e" % (mean, spread)
+        text = "%.*f" % (decimals, mean) if mean else "0"
+        return text if half is None else "%s ±%s" % (text, "%.*f" % (decimals, spread) if spread else "0")
 
 
 SHOWN: Dict[str, Figure] = {
@@ -102,25 +124,6 @@ SHOWN: Dict[str, Figure] = {
     "jain_windows": Figure("Jain's index, mean of windows", 1, 3, True),
     "fair_after_s": Figure("time to the fair share [s]", 1, 2),
 }
-
-
-@dataclass(frozen=True)
-class Window:
-    """The virtual time over which figures are computed: after `begin_us` (from the beginning where it is 0), up to
-    `until_us`, or to a case's end where that is None. Both in microseconds."""
-
-    begin_us: int = 0
-    until_us: int | None = None
-
-
-@dataclass(frozen=True)
-class SharedRun:
-    """A run of flows on one link: the link's trace, when its last round ends, in microseconds, and the numbers of the
-    line `link`."""
-
-    trace: str
-    end_us: int
-    packets: Mapping[str, int]
 
 
 # ---- the scenario's own columns
@@ -157,49 +160,6 @@ def columns_of(scenario: Mapping[str, Any], path: str = "scenario") -> Tuple[Lis
 
 
 # ---- the figures
-
-
-@functools.lru_cache(maxsize=64)
-def trace_of(text: str, place: str) -> Trace:
-    """The trace of a text, which each plot of a comparison asks for anew. A CcpError at `place` where it is none."""
-    return Trace(trace_times(text, place))
-
-
-class Link:
-    """What packets could use: the chances of the traces of a scenario."""
-
-    def __init__(self, scenario: Mapping[str, Any]) -> None:
-        self.scenario = scenario
-        self.kept: Dict[str, Trace] = {}
-
-    def trace(self, name: str) -> Trace:
-        """A trace of the scenario by its name; a CcpError where its text is none."""
-        if name not in self.kept:
-            self.kept[name] = trace_of(self.scenario["traces"][name], "trace " + name)
-        return self.kept[name]
-
-    def chances(self, name: str, until_us: int, begin_us: int = 0) -> int:
-        """The chances after `begin_us` (from the beginning where it is 0), and at or before `until_us`."""
-        before = self.trace(name).chances(begin_us) if begin_us else 0
-        return self.trace(name).chances(until_us) - before
-
-
-def divided(a: float, b: float) -> float | None:
-    """The quotient, or None where the divisor is 0."""
-    return a / b if b else None
-
-
-def of_counts(span_us: int, chances: int, packets: int, lost: int, timeouts: int, acked: int) -> Dict[str, Any]:
-    """The figures that the table and the acknowledgements both give."""
-    return {
-        "packets": packets,
-        "lost": lost,
-        "timeouts": timeouts,
-        "span_s": span_us / 1e6,
-        "throughput_mbps": divided(8 * acked, span_us),
-        "utilization": divided(packets, chances),
-        "loss_rate": divided(lost, packets + lost),
-    }
 
 
 def whole_counts(frame: pd.DataFrame) -> Dict[str, int]:
@@ -239,21 +199,6 @@ def figures_of_acks(
     if made.get("rtt_mean_ms"):
         made["power"] = (made["throughput_mbps"] or 0) / made["rtt_mean_ms"]
     return made
-
-
-def bounds_of(
-    case: Mapping[str, Any], end_us: int, window: Window, run: SharedRun | None = None
-) -> Tuple[int, int, int]:
-    """Three times in microseconds: what counts comes after the first, or from the beginning where it is 0, and at or
-    before the second; the third is the span from one to the other. `end_us` is that of the case's acknowledgements."""
-    if run is None:
-        until_us = end_us if window.until_us is None else min(window.until_us, end_us)
-        return window.begin_us, until_us, until_us - window.begin_us
-    start_us = int(case.get("start_us", 0))
-    until_us = run.end_us if window.until_us is None else min(window.until_us, run.end_us)
-    # a chance at the start may serve the flow, and one at the end of the last round serves none
-    after_us, upto_us = max(window.begin_us, start_us - 1), min(until_us, run.end_us - 1)
-    return after_us, upto_us, max(0, until_us - max(window.begin_us, start_us))
 
 
 def inside_of(frame: pd.DataFrame, after_us: int, upto_us: int) -> pd.DataFrame:
@@ -388,6 +333,20 @@ def figures_of_orders(
         frame = figures(run.scenario, table=table).iloc[[run.place(flow) - 1 for flow in flows]]
         made.append(frame.assign(run=run.number, place=[run.place(flow) for flow in flows], change=run.change))
     return pd.concat(made, ignore_index=True)
+
+
+def figures_of_means(
+    scenario: Mapping[str, Any], window: Window = Window(), path: str | Path | None = None
+) -> pd.DataFrame:
+    """The figures of each case of a scenario of any number of cases that counts and means are enough for, as
+    probe.mean_figures makes them: a row a case with the columns of `figures`. `path` is that of the program. Errors:
+    CcpError."""
+    names, own = columns_of(scenario)
+    rows = []
+    for case, columns, one in zip(scenario["cases"], own, probe.mean_figures(scenario, window, program=path)):
+        made = {**columns, **{name: value for name, value in asdict(one).items() if name in METRICS}}
+        rows.append({**made, "doubts": "; ".join(doubts_of(case, made, None, None))})
+    return frame_of_rows(rows, names)
 
 
 def add_acks(
@@ -669,6 +628,8 @@ def add_arguments(parser: argparse.ArgumentParser) -> None:
     parser.add_argument(
         "--columns", type=names, metavar="COLUMNS", help="the columns that are written; with --by the figures (all)"
     )
+    what = "runs a scenario itself, for the figures that means are enough for: fast, in place of reading a text"
+    parser.add_argument("--means", action="store_true", help=what)
     what = "runs a scenario of shared in all orders of its flows, or in N of them, in place of reading a text"
     parser.add_argument("--orders", type=orders.order_count, metavar="all|N", help=what)
     what = "with --orders: runs each order with N small changes of queue and delays (none)"
@@ -710,16 +671,14 @@ def opened(path: str) -> Iterator[IO[bytes]]:
             file.close()
 
 
-class Continued:
+class Continued(Begun):
     """A file whose beginning was read already. `end` are the last bytes that were read, which hold a line `link`."""
 
-    def __init__(self, beginning: bytes, file: IO[bytes]) -> None:
-        self.beginning, self.file, self.end = beginning, file, b""
+    end = b""
 
     def read(self, size: int = -1) -> bytes:
         """At most `size` bytes, or all where it is negative, the beginning first."""
-        beginning, self.beginning = self.beginning, b""
-        piece = beginning + self.file.read(size if size < 0 else max(0, size - len(beginning)))
+        piece = super().read(size)
         self.end = (self.end + piece)[-1024:]
         return piece
 
@@ -785,7 +744,9 @@ def paths_of(arguments: argparse.Namespace) -> List[str]:
 
 
 def check_orders(arguments: argparse.Namespace) -> None:
-    """Refuses what doesn't go together with --orders."""
+    """Refuses what doesn't go together with --means or --orders."""
+    if arguments.means and (arguments.texts or arguments.orders is not None or arguments.window_ms):
+        raise UsageError("--means runs the scenario itself, without a text, --orders and --window-ms")
     if arguments.orders is None and arguments.changes:
         raise UsageError("--changes needs --orders")
     if arguments.orders is not None and (arguments.texts or arguments.begin or arguments.until):
@@ -825,7 +786,8 @@ def write_parquet(frame: pd.DataFrame, path: str | None) -> None:
 def run(arguments: argparse.Namespace) -> int:
     """Runs `ccp metrics`."""
     check_orders(arguments)
-    paths = paths_of(arguments) if arguments.orders is None else []
+    runs_itself = arguments.means or arguments.orders is not None
+    paths = [] if runs_itself else paths_of(arguments)
     window = Window(arguments.begin, arguments.until)
     if window.until_us is not None and window.until_us <= window.begin_us:
         raise UsageError("--until: a time after that of --from is expected")
@@ -834,7 +796,11 @@ def run(arguments: argparse.Namespace) -> int:
     check_columns("--by", arguments.by or [], names)
     known = METRICS if arguments.by else [*names, *METRICS, "doubts"]
     check_columns("--columns", arguments.columns or [], known)
-    if arguments.orders is not None:
+    if arguments.means:
+        if "shared" in scenario:
+            raise UsageError("--means is of cases with a link each, and %s is of shared" % name_of(arguments.scenario))
+        frame, run_there = figures_of_means(scenario, window, arguments.ccp), None
+    elif arguments.orders is not None:
         frame, run_there = figures_of_orders(scenario, arguments.orders, arguments.changes, arguments.ccp), None
     else:
         frame, run_there = figures_of_texts(scenario, read_given(paths), window, arguments.window_ms)

@@ -22,12 +22,20 @@ from dataclasses import dataclass
 from pathlib import Path
 from typing import Any, Dict, List, Sequence, Tuple
 
-from .errors import CcpError, UsageError
+from .errors import CcpError, UsageError, cut
+from .files import named_errors, name_of, replace_text, write_text
 from .interrupts import without_interrupts
 from .parts import Part
+from .program import processors
 
 REFUSED = 3
 SCRIPT = Path(__file__).with_name("part.sh")
+# where it is, and no run.json, a run was cut off while it wrote its parts
+BEGUN = ".ccp-over-begun"
+# the most parts whose metrics one process works out
+MOST_OF_PROCESS = 32
+# the most bytes of what a failed run said
+MOST_OF_AN_ERROR = 1000
 
 
 @dataclass(frozen=True)
@@ -73,16 +81,23 @@ class Folder:
         return len(self.spans)
 
     def begin(self, job: Job, parts: Sequence[Part]) -> None:
-        """Writes the parts. The manifest comes last, so that a folder that was cut off while it was written has
-        none."""
+        """Writes the parts. The manifest comes last, so a folder that was cut off while it was written has none."""
+        write_text(self.path / BEGUN, "")
         for at, part in enumerate(parts):
-            self.file(at, "json").write_text(part.text, encoding="utf-8", errors="surrogateescape")
-        shutil.copyfile(SCRIPT, self.path / "part.sh")
+            write_text(self.file(at, "json"), part.text)
         if job.words == "metrics":
-            pack_tools(self.path / "tools.pyz")
+            with named_errors(self.path / "tools.pyz"):
+                pack_tools(self.path / "tools.pyz")
         self.spans = [(part.first, part.end) for part in parts]
-        made = dict(job.manifest(), parts=self.spans)
-        (self.path / "run.json").write_text(json.dumps(made) + "\n", encoding="utf-8")
+        replace_text(self.path / "run.json", json.dumps(dict(job.manifest(), parts=self.spans)) + "\n")
+        (self.path / BEGUN).unlink()
+
+    def prepare(self, job: Job) -> None:
+        """Writes what runs a part, and what that gets: a file, so that no command line has words of the user."""
+        replace_text(self.path / "part.sh", SCRIPT.read_text(encoding="utf-8"))
+        words = {"program": str(job.program), "sha": job.sha256, "words": job.words, "python": job.python}
+        lines = ["%s=%s\n" % (name, shlex.quote(word)) for name, word in words.items()]
+        replace_text(self.path / "words.sh", "".join(lines))
 
     def check(self, job: Job) -> None:
         """Reads the manifest of an earlier run; one of another run is refused."""
@@ -91,12 +106,12 @@ class Folder:
             self.spans = [(int(first), int(end)) for first, end in made["parts"]]
             differing = [name for name, value in job.manifest().items() if made[name] != value]
         except (ValueError, KeyError, TypeError):
-            raise CcpError("%s: no list of parts of `ccp over`" % (self.path / "run.json")) from None
+            raise CcpError("%s: no list of parts of `ccp over`" % name_of(self.path / "run.json")) from None
         names = {"scenario": "another scenario", "words": "another mode or --wire", "program": "another program"}
         if differing:
             what = " and ".join(names[name] for name in differing)
             raise UsageError(
-                "%s has parts of a run with %s, which aren't mixed: name another folder" % (self.path, what)
+                "%s has parts of a run with %s, which aren't mixed: name another folder" % (name_of(self.path), what)
             )
 
     def file(self, at: int, ending: str) -> Path:
@@ -157,13 +172,14 @@ class Folder:
     def error_of(self, at: int) -> str:
         """Why the last run of a part failed, in one line."""
         result = self.result(at)
-        return " ".join(result.errors.split()) if result else ""
+        return cut(" ".join(result.errors.split()), MOST_OF_AN_ERROR) if result else ""
 
     def outputs(self) -> List[Path]:
         """The files with what the parts printed."""
         for at in range(self.count):
             result = self.result(at)
-            self.file(at, "out").write_bytes(result.output if result else b"")
+            with named_errors(self.file(at, "out")):
+                self.file(at, "out").write_bytes(result.output if result else b"")
         return [self.file(at, "out") for at in range(self.count)]
 
 
@@ -246,10 +262,6 @@ class Runner:
     def close(self) -> None:
         """Ends what is left of the runs."""
 
-    def part_words(self) -> List[str]:
-        """The words of part.sh before the part."""
-        return [str(self.job.program), self.job.sha256, self.job.words, self.job.python]
-
 
 class Parallel(Runner):
     """Runs by GNU parallel, here or over ssh. `logins` are machines as it takes them, none for this one alone."""
@@ -274,15 +286,16 @@ class Parallel(Runner):
             raise CcpError("no machine can be reached: %s" % (self.last_error or ", ".join(lost)))
         for login, answer in found.items():
             if answer != self.job.sha256:
-                known = re.fullmatch(r"[0-9a-f]{64}", answer)
-                what = "has the SHA-256 %s there, and %s here" % (answer[:16], self.job.sha256[:16])
-                raise CcpError("%s: %s %s" % (login, self.job.program, what) if known else "%s: %s" % (login, answer))
+                if re.fullmatch(r"[0-9a-f]{64}", answer):
+                    what = "has the SHA-256 %s there, and %s here" % (answer[:16], self.job.sha256[:16])
+                    answer = "%s %s" % (name_of(self.job.program), what)
+                raise CcpError("%s: %s" % (cut(login), cut(answer, MOST_OF_AN_ERROR)))
         self.logins = [login for login in self.logins if login in found]
         return lost
 
     def asked_machines(self) -> Dict[str, str]:
         """What each machine that can be reached answers: the SHA-256 of its program, or what it lacks."""
-        asked = "set -- %s; " % " ".join(shlex.quote(word) for word in [str(self.job.program), self.job.python])
+        asked = "set -- %s; " % " ".join(unseen(word) for word in [str(self.job.program), self.job.python])
         asked += '[ -x "$1" ] || { echo "= there is no program at $1"; exit 0; }; '
         if self.job.words == "metrics":
             asked += '"$2" -c "import pandas, scipy" 2>&1 || { echo "= $2 has no pandas and scipy"; exit 0; }; '
@@ -296,7 +309,7 @@ class Parallel(Runner):
             if answers:
                 found[login] = answers[-1]
             elif errors.strip():
-                self.last_error = errors.strip().split("\n")[-1]
+                self.last_error = cut(errors.strip().split("\n")[-1], MOST_OF_AN_ERROR)
         return found
 
     def start(self, login: str, asked: str) -> subprocess.Popen[str]:
@@ -312,8 +325,10 @@ class Parallel(Runner):
             self.ssh_command(),
             asked,
         ]
-        pipe = subprocess.PIPE
-        return subprocess.Popen(words, stdin=subprocess.DEVNULL, stdout=pipe, stderr=pipe, text=True, errors="replace")
+        pipe, env = subprocess.PIPE, {**os.environ, "TMPDIR": plain_folder()}
+        return subprocess.Popen(
+            words, stdin=subprocess.DEVNULL, stdout=pipe, stderr=pipe, env=env, text=True, errors="replace"
+        )
 
     def ssh_command(self) -> str:
         """The command for ssh. A machine that goes away is noticed after half a minute, none asks for a password, and
@@ -321,7 +336,7 @@ class Parallel(Runner):
         words = shlex.split(self.ssh)
         if words and os.path.basename(words[0]) == "ssh":
             if self.sockets is None:
-                self.sockets = Path(tempfile.mkdtemp(prefix="ccp-ssh-"))
+                self.sockets = Path(tempfile.mkdtemp(prefix="ccp-ssh-", dir=plain_folder()))
             words += ["-o", "ControlMaster=auto", "-o", "ControlPath=%s/%%C" % self.sockets, "-o", "ControlPersist=60"]
             words += ["-o", "BatchMode=yes", "-o", "ConnectTimeout=20"]
             words += ["-o", "ServerAliveInterval=10", "-o", "ServerAliveCountMax=3"]
@@ -345,8 +360,10 @@ class Parallel(Runner):
         words = [*self.command(), ":::", *names]
         pipe = subprocess.PIPE
         try:
+            # a run on this machine among others finds the folder by the variable
+            env = {**os.environ, "TMPDIR": plain_folder(), "CCP_OVER_FOLDER": str(self.folder.path)}
             running = subprocess.Popen(
-                words, cwd=self.folder.path, stdin=subprocess.DEVNULL, stdout=subprocess.DEVNULL, stderr=pipe
+                words, cwd=self.folder.path, env=env, stdin=subprocess.DEVNULL, stdout=subprocess.DEVNULL, stderr=pipe
             )
         except OSError as error:
             raise CcpError("parallel: %s" % error.strerror) from None
@@ -359,27 +376,45 @@ class Parallel(Runner):
         except BaseException:
             end_runs(running)
             raise
-        self.last_error = errors.decode("utf-8", "replace").strip().split("\n")[-1].strip()
+        last = errors.decode("utf-8", "replace").strip().split("\n")[-1].strip()
+        self.last_error = cut(last, MOST_OF_AN_ERROR)
 
     def command(self) -> List[str]:
-        """GNU parallel's words. A part is sent with what it needs, and its result comes back alone."""
+        """GNU parallel's words. A part is sent with what it needs, and its result comes back alone. What parallel puts
+        into the command is a part's name; all else of the user's is in words.sh, or in the environment."""
         words = ["parallel", "--no-notice", "--will-cite", "--retries", str(self.tries), "--halt", "never"]
-        run = "sh part.sh %s {.}" % " ".join(shlex.quote(word) for word in self.part_words())
+        run = "sh part.sh {.}"
         if self.logins:
-            files = ["{}", "part.sh"] + (["tools.pyz"] if self.job.words == "metrics" else [])
+            files = ["{}", "part.sh", "words.sh"] + (["tools.pyz"] if self.job.words == "metrics" else [])
             words += ["--workdir", "...", "--cleanup", "--return", "{.}.result", "--ssh", self.ssh_command()]
             words += [word for name in files for word in ("--transferfile", name)]
             words += [word for login in self.logins for word in ("--sshlogin", login)]
             # `:` is given a new folder too, while its part stays here
-            here = shlex.quote(str(self.folder.path))
+            here = '[ -e {} ] || { d=$PWD; cd "${CCP_OVER_FOLDER:?}" && rmdir "$d"; }'
             # rsync wants the file that it returns
-            run = (
-                '[ -e {} ] || { d=$PWD; cd %s && rmdir "$d"; }; %s; s=$?; [ -e {.}.result ] || : > {.}.result; exit $s'
-                % (here, run)
-            )
+            run = "%s; %s; s=$?; [ -e {.}.result ] || : > {.}.result; exit $s" % (here, run)
         if self.jobs:
             words += ["--jobs", self.jobs]
+        if self.job.words == "metrics" and not self.logins:
+            words += ["--max-args", str(self.parts_of_process())]
         return [*words, run]
+
+    def parts_of_process(self) -> int:
+        """How many parts one process works out the metrics of here: its imports take as long as a small part. Each
+        processor gets two processes at least, so that none waits long for the last one."""
+        return max(1, min(MOST_OF_PROCESS, len(self.folder.left()) // (2 * processors())))
+
+
+def plain_folder() -> str:
+    """A folder for temporary files whose name a shell takes as it stands, as GNU parallel hands it to one."""
+    found = tempfile.gettempdir()
+    return found if re.fullmatch(r"[A-Za-z0-9_@%+=:,./-]+", found) else "/tmp"
+
+
+def unseen(word: str) -> str:
+    """A word for sh within a command of GNU parallel, which sees none of its replacement strings in it: each begins
+    with a brace."""
+    return shlex.quote(word).replace("{", "'\"$(printf '\\173')\"'")
 
 
 def end_runs(running: subprocess.Popen[bytes]) -> None:
@@ -419,7 +454,7 @@ class Slurm(Runner):
         """Submits an array job of parts, and returns its number."""
         tasks = min(len(left), self.MOST_TASKS)
         todo = "todo.%d" % number
-        (self.folder.path / todo).write_text("".join("%06d\n" % at for at in left), encoding="ascii")
+        write_text(self.folder.path / todo, "".join("%06d\n" % at for at in left))
         words = ["sbatch", "--parsable", "--job-name=ccp-over", "--ntasks=1", "--requeue", "--open-mode=append"]
         words += ["--chdir=%s" % self.folder.path, "--output=task-%a.log", "--array=0-%d" % (tasks - 1), *self.options]
         try:
@@ -430,17 +465,17 @@ class Slurm(Runner):
             raise CcpError("sbatch: %s" % error.strerror) from None
         found = re.match(r"[0-9]+", ran.stdout.strip())
         if ran.returncode or not found:
-            raise CcpError("sbatch: %s" % (ran.stderr.strip().split("\n")[-1] or "status %d" % ran.returncode))
+            last = cut(ran.stderr.strip().split("\n")[-1], MOST_OF_AN_ERROR)
+            raise CcpError("sbatch: %s" % (last or "status %d" % ran.returncode))
         return found.group(0)
 
     def script(self, todo: str, tasks: int) -> str:
         """The script of a task, which takes every `tasks`-th part of the list and runs it if it has no answer yet."""
-        words = " ".join(shlex.quote(word) for word in self.part_words())
         return """#!/bin/sh
 for part in $(awk -v task="$SLURM_ARRAY_TASK_ID" 'NR %% %d == (task + 1) %% %d' %s); do
     case $(head -n 1 "$part.result" 2>/dev/null) in
         "ccp-part 0 "* | "ccp-part %d "*) ;;
-        *) sh part.sh %s "$part" ;;
+        *) sh part.sh "$part" ;;
     esac
 done
 exit 0
@@ -449,7 +484,6 @@ exit 0
             tasks,
             todo,
             REFUSED,
-            words,
         )
 
     def wait(self, job: str) -> None:
@@ -466,5 +500,5 @@ exit 0
                 while not self.folder.is_done() and time.monotonic() < until:
                     time.sleep(0.2)
                 return
-            self.last_error = ran.stderr.strip().split("\n")[-1]
+            self.last_error = cut(ran.stderr.strip().split("\n")[-1], MOST_OF_AN_ERROR)
             time.sleep(self.POLL_S)

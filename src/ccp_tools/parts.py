@@ -1,7 +1,7 @@
 """Splits a scenario into parts that one run of `ccp` takes, and joins what they print into what one run would print.
 
-Each part has the traces of its cases alone. A run takes at most 1,024 cases and 1,048,576 bytes, and `timeline` and
-`acks` at most 64 cases and 262,144 acknowledgements."""
+Each part has the traces of its cases alone, and of more than 13 programs those of its cases. A run takes at most 1,024
+cases and 1,048,576 bytes, and `timeline` and `acks` at most 64 cases and 262,144 acknowledgements."""
 from __future__ import annotations
 
 import csv
@@ -11,7 +11,7 @@ import re
 import sys
 from dataclasses import dataclass
 from pathlib import Path
-from typing import Any, Dict, Iterator, List, NoReturn, Sequence, Set, Tuple
+from typing import Any, Dict, Iterator, List, Mapping, NoReturn, Sequence, Set, Tuple
 
 from .errors import CcpError
 from .tables import COLUMNS, LIMITS, MODES, SUMS
@@ -50,6 +50,7 @@ class Splitter:
         self.traces: Dict[str, Any] = traces if isinstance(traces, dict) else {}
         self.size = min([size] + [MODES[mode].cases or size for mode in OUTPUTS[output]])
         self.most_acks = None if output == "campaign" else LIMITS["acks_in_all"]
+        self.has_many_programs = has_many_programs(whole)
         # the bytes without cases and traces
         emptied: Dict[str, Any] = {"cases": [], **({"traces": {}} if self.traces else {})}
         self.bare = len(json.dumps({**whole, **emptied}))
@@ -64,14 +65,17 @@ class Splitter:
         """The parts as spans of cases: as many cases a part as the limits allow."""
         first, size, acks = 0, self.bare, 0
         used: Set[str | None] = set()
+        programs: Set[str] = set()
         for at, case in enumerate(self.cases):
             # the bytes of a case with the comma and the blank after it, and those of its trace if it is the first one
             case_size, case_acks, name = len(json.dumps(case)) + 2, acks_of(case), self.trace_of(case)
             more = case_size + (self.trace_bytes[name] if name and name not in used else 0)
-            if at > first and (self.is_full(at - first, size + more) or self.has_too_many(acks + case_acks)):
+            programs |= programs_of(case) if self.has_many_programs else set()
+            is_full = self.is_full(at - first, size + more) or self.has_too_many(acks + case_acks)
+            if at > first and (is_full or len(programs) > LIMITS["named_programs"]):
                 yield first, at
                 first, used, size, acks = at, set(), self.bare, 0
-                more = case_size + (self.trace_bytes[name] if name else 0)
+                more, programs = case_size + (self.trace_bytes[name] if name else 0), programs_of(case)
             used.add(name)
             size, acks = size + more, acks + case_acks
         yield first, len(self.cases)
@@ -87,7 +91,7 @@ class Splitter:
     def part(self, first: int, end: int) -> Part:
         """The part of a span. The first one keeps all traces where they fit, so that a trace that no case uses is
         refused as in one run."""
-        made = dict(self.whole, cases=self.cases[first:end])
+        made = with_used_programs(dict(self.whole, cases=self.cases[first:end]))
         text = json.dumps(made)
         if self.traces and (first or len(text) > LIMITS["input_bytes"]):
             used = {self.trace_of(case) for case in made["cases"]}
@@ -97,6 +101,26 @@ class Splitter:
             what = "cases[%d] alone has %d bytes with its trace and the programs" % (first, len(text))
             raise CcpError("%s, and one run takes at most %d: cut the trace" % (what, LIMITS["input_bytes"]), 3)
         return Part(first, end, text)
+
+
+def has_many_programs(scenario: Mapping[str, Any]) -> bool:
+    """Whether a scenario has more programs than one run takes."""
+    programs = scenario.get("programs")
+    return isinstance(programs, dict) and len(programs) > LIMITS["named_programs"]
+
+
+def programs_of(case: Any) -> Set[str]:
+    """The names of the programs of a case."""
+    members = case if isinstance(case, dict) else {}
+    return {members[role] for role in ("ss", "ca") if isinstance(members.get(role), str)}
+
+
+def with_used_programs(scenario: Dict[str, Any]) -> Dict[str, Any]:
+    """A scenario, without the programs that no case of it uses where one run doesn't take all of them."""
+    if not has_many_programs(scenario):
+        return scenario
+    used = {name for case in scenario["cases"] for name in programs_of(case)}
+    return {**scenario, "programs": {name: text for name, text in scenario["programs"].items() if name in used}}
 
 
 def acks_of(case: Any) -> int:

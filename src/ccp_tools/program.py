@@ -41,7 +41,8 @@ def checkout() -> Path | None:
 def find_program(path: str | Path | None = None) -> Path:
     """The program to run, as an absolute path: the one given, else that of the variable CCP_PROGRAM. Else, in a
     checkout, the one that `./ccp` runs: the proved one, else the unproved one, which is compiled first where it has to
-    be. Else the program of the `ccp` on the PATH. Where there is none, that is NoProgram."""
+    be. Else the program that was installed with this package, else that of the `ccp` on the PATH. Where there is none,
+    that is NoProgram."""
     named = path or os.environ.get("CCP_PROGRAM")
     top = checkout()
     if named:
@@ -49,7 +50,7 @@ def find_program(path: str | Path | None = None) -> Path:
     elif top:
         found = of_checkout(top)
     else:
-        found = installed()
+        found = installed_here() or installed()
     if found is None:
         raise NoProgram("there is no ccp on the PATH; --ccp PATH or CCP_PROGRAM=PATH names one")
     if not (found.is_file() and os.access(found, os.X_OK)):
@@ -66,8 +67,25 @@ def of_checkout(top: Path) -> Path:
     except OSError as error:
         raise NoProgram("%s: %s" % (command, error.strerror)) from None
     if ran.returncode or not ran.stdout.strip():
-        raise NoProgram("the unproved program isn't compiled; --ccp PATH or CCP_PROGRAM=PATH names another")
+        raise NoProgram("this checkout gives no program; --ccp PATH or CCP_PROGRAM=PATH names another")
     return Path(ran.stdout.strip())
+
+
+def installed_here(package: Path = Path(__file__).resolve().parent) -> Path | None:
+    """The program that was installed with this package: PREFIX/libexec/ccp/ccp, where the package is in
+    PREFIX/lib/pythonVERSION/site-packages or its like, as a wheel and Debian's package put it, or in
+    PREFIX/libexec/ccp/python, as tools/install-ccp does."""
+    above = package.parents
+    for places, name in ((1, "ccp"), (3, "libexec/ccp/ccp")):
+        found = above[places] / name if len(above) > places else None
+        if found and found.is_file() and is_installed(found):
+            return found
+    return None
+
+
+def is_installed(path: Path) -> bool:
+    """Whether a program is one that was installed beside its launcher."""
+    return path.parent.name == "ccp" and path.parent.parent.name == "libexec"
 
 
 def installed() -> Path | None:
@@ -200,9 +218,17 @@ def is_proved(path: Path) -> bool:
     top = checkout()
     if top:
         command = [str(top / "tools" / "launcher" / "checked-program"), "--proved"]
-        ran = subprocess.run(command, stdin=subprocess.DEVNULL, stdout=subprocess.PIPE, text=True)
+        ran = subprocess.run(command, stdin=subprocess.DEVNULL, capture_output=True, text=True)
+        if ran.returncode not in (0, 1):
+            raise CcpError(last_line(ran.stderr) or "%s ended with status %d" % (command[0], ran.returncode))
         return any(path.samefile(proved) for proved in ran.stdout.splitlines())
-    return path.parent.name == "ccp" and path.parent.parent.name == "libexec"
+    return is_installed(path)
+
+
+def last_line(text: str) -> str:
+    """The last line of an error output, without the `ccp: ` before it."""
+    line = text.rstrip("\n").rpartition("\n")[2]
+    return line[len("ccp: ") :] if line.startswith("ccp: ") else line
 
 
 def note(text: str) -> None:

@@ -44,6 +44,10 @@ def queues(text: str) -> List[Queue]:
     """A parser of --queue: numbers of packets, ranges of them, and products of bandwidth and delay, as 100,1bdp."""
     found: List[Queue] = []
     for part in list_of(str)(text):
+        time = re.fullmatch(r"([0-9]+(?:\.[0-9]+)?) ?(ms|s)", part.lower())
+        if time:
+            ms = float(time[1]) * (1 if time[2] == "ms" else 1000)
+            raise argparse.ArgumentTypeError("%s: a queue in milliseconds is --queue-ms %g" % (shown(part), ms))
         product = re.fullmatch(r"([0-9]{1,3}(?:\.[0-9]{1,3})?)bdp", part.lower())
         if product and float(product[1]):
             found.append(Queue(products=float(product[1])))

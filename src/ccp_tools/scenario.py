@@ -2,7 +2,7 @@
 
     ccp scenario [OPTION].. [NAME=]TRACE-FILE.. > scenario.json
 
-    ccp scenario --senders reno,cubic --queue 20,200 --delay-ms 10,40 examples/traces/*.trace > scenario.json
+    ccp scenario --queue 20,200 --delay-ms 10,40 examples/traces/*.trace > scenario.json
     ccp campaign scenario.json
 
 Traces. A trace file is one as Mahimahi records them: a time in whole milliseconds a line, not falling; at each such
@@ -13,15 +13,22 @@ another name. A trace is shortened only where --cut MS asks for it.
 Queues. --queue takes packets, or multiples of the bandwidth-delay product of the trace's mean rate and the delay, as
 1bdp; --queue-ms takes milliseconds at the mean rate.
 
+Links. --link TRACE:KEY=VALUE,.. is a recording with conditions of its own, as lte.trace:delay=50,queue=1bdp: delay
+(ms), queue (packets, 1bdp or 50ms), losses, mark, timeout (ms) and mss. What it doesn't say is that of the grid. One
+recording may be several links: NAME=TRACE names each.
+
 The grid. There is a case for each trace, sender, queue, delay, loss, seed and mark, in this order; the last one varies
 fastest. A list has commas between its values; among numbers, 10..100:10 is 10, 20 and on to 100, and 1..20 is each of
 them.
 
-Senders. --senders takes an agent, as `reno`, or one with your own programs: LABEL=PROGRAM runs a program in slow start
-and in congestion avoidance with Reno as the agent, `cubic:PROGRAM` has another agent, `reno:SLOW:AVOID` runs SLOW in
-slow start and AVOID in avoidance, and `reno::AVOID` runs the built-in one in slow start. LABEL= before any of these
-names the sender. A program is a file, or a name that --portus NAME=FILE gives. `linux-reno` and `linux-cubic` are these
-agents with programs like Linux's, which come with ccp (docs/senders.md).
+Senders. Where none is named they are `linux-reno` and `linux-cubic`, programs that come with ccp, which do on each
+acknowledgement what Linux's senders do (docs/senders.md). --senders takes these, an agent, as `reno`, or one with your
+own programs: LABEL=PROGRAM runs a program in slow start and in congestion avoidance with Reno as the agent,
+`cubic:PROGRAM` has another agent, `reno:SLOW:AVOID` runs SLOW in slow start and AVOID in avoidance, and `reno::AVOID`
+runs the built-in one in slow start. LABEL= before any of these names the sender. A program is a file, or a name that
+--portus NAME=FILE gives. --set NAME=LIST makes a sender for each number of a control variable that the senders' own
+programs declare, as (high 4): of delay=FILE and --set high=2,4 the senders delay-high2 and delay-high4. Several --set
+give each combination. A sender whose programs don't declare the variable stays as it is.
 
 Losses. --losses takes `none`, numbers of packets as 17+40+900, or losses by chance: `rate:P` loses each packet with the
 chance P, and `gilbert:P:R` loses bursts: after a packet that came through the next one begins a burst with the chance
@@ -43,12 +50,16 @@ takes K chances, so a case reaches K times as far. --mss, --queue, --mark, --lag
 has K times --mss bytes, queue, mark and lag are divided by K and rounded, and a packet is lost if one of its segments
 is. docs/compare.md shows what changes.
 
-Limits. A scenario that one run doesn't accept (too many cases, bytes or acknowledgements for the mode of --for) is
-refused with its size. --whole writes it all the same, for `ccp over`, which splits it. --dry-run prints the size in
-place of the scenario.
+Limits. A scenario that one run doesn't accept (too many cases, programs, bytes or acknowledgements for the mode of
+--for) is refused with its size. --whole writes it all the same, for `ccp over`, which splits it. --dry-run prints the
+size in place of the scenario.
+
+Cautions. Where docs/fidelity.md says that figures can't be trusted, as on a trace with gaps, or of the built-in CUBIC
+with losses by chance, a line on standard error says so.
 
 Beside what `ccp` reads, each case has the members `sender`, `loss`, and where they mean something `rate` (the share of
-packets lost by chance), `seed` and `aggregate`. `ccp` ignores them; `ccp metrics` shows them as columns.
+packets lost by chance), `seed`, `aggregate`, and of --set `set_NAME`. `ccp` ignores them; `ccp metrics` shows them as
+columns.
 
 Exit status: 0; 1 where a file is refused or a limit is passed; 2 where an argument is wrong."""
 from __future__ import annotations
@@ -57,28 +68,23 @@ import argparse
 import itertools
 import re
 import sys
-from dataclasses import dataclass, field
+from dataclasses import dataclass, field, replace
 from pathlib import Path
-from typing import Any, Dict, Iterator, List, Mapping, Sequence, Tuple
+from typing import Any, Dict, Iterator, List, Sequence, Tuple
 
-from . import aggregation
-from .arguments import Parse, Parser, deprecated, is_name, list_of, named_file, ranges, shown, warn, whole
+from . import aggregation, cautions, limits
+from .arguments import Parse, Parser, deprecated, group_of, is_name, list_of, named_file, ranges, shown, warn, whole
 from .errors import CcpError, UsageError
+from .limits import CASES, SPLIT
 from .losses import Loss, loss
 from .queues import Queue, queues, queues_ms
 from .scenario_files import Scenario, read_scenario, scenario_of, scenario_text, write_scenario
-from .senders import Sender, add_senders, resolved, sender
-from .tables import AGENTS, LIMITS, MODES
-from .traces import Trace, read_trace, trace_text
+from .senders import LIKE_LINUX, Sender, add_senders, add_set, resolved, with_settings
+from .tables import LIMITS, MODES
+from .traces import Trace, needed_times, read_trace, trace_text
 
 __all__ = ["Grid", "make", "read_scenario", "scenario_of", "scenario_text", "write_scenario"]
 
-# the most cases of a mode's scenario; `audit` and the modes of `drive` read as many as `live`
-CASES: Dict[str, int] = {
-    mode.name: mode.cases or LIMITS["flows"] for mode in MODES.values() if mode.cases or mode.kind in ("audit", "drive")
-}
-# the modes that `ccp over` runs in parts, with its option for each
-SPLIT = {"campaign": "", "timeline": " --timeline", "acks": " --acks"}
 LONGEST_NAME = LIMITS["scene_name_bytes"]
 MIDDLE = ".."
 
@@ -126,6 +132,68 @@ def trace(text: str) -> Tuple[str | None, str]:
     if "=" not in text or Path(text).exists():
         return None, text
     return named_file(text)
+
+
+@dataclass(frozen=True)
+class Conditions:
+    """What a link has of its own, where the values of the grid don't count: each is None where they do. Times are in
+    microseconds."""
+
+    queue: Queue | None = None
+    delay_us: int | None = None
+    loss: Loss | None = None
+    mark: int | None = None
+    timeout_us: int | None = None
+    mss: int | None = None
+
+
+@dataclass(frozen=True)
+class LinkWord:
+    """A word of --link: its text, the name of its trace (None where it is the file's), the file, and the conditions."""
+
+    text: str
+    name: str | None
+    path: str
+    own: Conditions
+
+
+def link(text: str) -> LinkWord:
+    """A parser of --link: [NAME=]TRACE-FILE:KEY=VALUE,.."""
+    found = None if Path(text).exists() else re.fullmatch(r"(.+?)(?::([a-z-]+=.*))?", text)
+    name, path = trace(found[1] if found else text)
+    values: Dict[str, Any] = {}
+    for part in (found[2] or "").split(",") if found else []:
+        key, _, value = part.partition("=")
+        if part and (key not in LINK_VALUES or not value):
+            keys = ", ".join(LINK_VALUES)
+            raise argparse.ArgumentTypeError(
+                "%s: %s: KEY=VALUE is expected, where KEY is %s" % (text, shown(part), keys)
+            )
+        if key in LINK_VALUES:
+            member, parse = LINK_VALUES[key]
+            if member in values:
+                raise argparse.ArgumentTypeError("%s: %s is there twice" % (text, key))
+            values[member] = parse(value)
+    return LinkWord(text, name, path, Conditions(**values))
+
+
+def one_queue(text: str) -> Queue:
+    """A parser of one queue: packets, as 100, products, as 1bdp, or milliseconds, as 50ms."""
+    found = queues_ms(text[: -len("ms")]) if re.fullmatch(r"[0-9.]+ms", text) else queues(text)
+    if len(found) != 1:
+        raise argparse.ArgumentTypeError("%s: a link has one queue" % shown(text))
+    return found[0]
+
+
+# what a link may have of its own: the member of Conditions and its parser, by the key of --link
+LINK_VALUES: Dict[str, Tuple[str, Parse[Any]]] = {
+    "delay": ("delay_us", milliseconds(0, LIMITS["delay_us"])),
+    "queue": ("queue", one_queue),
+    "losses": ("loss", loss),
+    "mark": ("mark", mark),
+    "timeout": ("timeout_us", milliseconds(1, LIMITS["timeout_us"])),
+    "mss": ("mss", whole(1, LIMITS["segment_bytes"])),
+}
 
 
 @dataclass(frozen=True)
@@ -245,13 +313,19 @@ class Point:
 class Grid:
     """What a scenario is made of; the defaults are those of the options. Times are in microseconds but for `cut_ms`.
 
-    `traces` are pairs of a name (or None, then by the file) and a file. `seconds_us` is the length in place of `acks`.
+    `traces` are pairs of a name (or None, then by the file) and a file, and `conditions` what each of them has of its
+    own, by its number. `seconds_us` is the length in place of `acks`.
     `shared` is the bottleneck of all flows, as the member of a scenario, and `start_us` says when they start, as
     starts_of reads it; `steps` are those of a rollout. A packet has `aggregate` segments of `mss` bytes, and takes as
-    many chances."""
+    many chances. With `is_whole` the limits are those of each case alone.
+
+    A draft of the scenario sets `own`, the conditions by the names of traces; `recorded`, the times of each trace up to
+    the cut; `links`, the traces that its cases
+    run over, before they are cut to what the length needs; and `notes`, what was done to them. `files` keeps what was
+    read, by path."""
 
     traces: List[Tuple[str | None, str]]
-    senders: List[Sender] = field(default_factory=lambda: [sender(name) for name in AGENTS])
+    senders: List[Sender] = field(default_factory=lambda: list(LIKE_LINUX.values()))
     portus: List[Tuple[str, str]] = field(default_factory=list)
     queue: List[Queue] = field(default_factory=lambda: [Queue(100)])
     delay_us: List[int] = field(default_factory=lambda: [20_000])
@@ -272,16 +346,36 @@ class Grid:
     start_us: List[int] | None = None
     aggregate: int = 1
     is_quiet: bool = False
+    is_whole: bool = False
+    conditions: Dict[int, Conditions] = field(default_factory=dict)
+    own: Dict[str, Conditions] = field(default_factory=dict)
+    recorded: Dict[str, List[int]] = field(default_factory=dict)
+    links: Dict[str, Trace] = field(default_factory=dict)
+    notes: List[str] = field(default_factory=list)
+    files: Dict[str, List[int]] = field(default_factory=dict)
 
     def __post_init__(self) -> None:
-        most = LIMITS["segment_bytes"]
-        if self.mss * self.aggregate > most:
+        most, mss = LIMITS["segment_bytes"], max([self.mss, *(one.mss or 0 for one in self.conditions.values())])
+        if mss * self.aggregate > most:
             text = "--aggregate %d: packets of %d bytes; at most %d are accepted, so at most --aggregate %d"
-            raise UsageError(text % (self.aggregate, self.mss * self.aggregate, most, most // self.mss))
+            raise UsageError(text % (self.aggregate, mss * self.aggregate, most, most // mss))
+
+    def changed(self, **changes: Any) -> Grid:
+        """The same grid with other members, which says nothing, and reads no file again."""
+        fresh: Dict[str, Any] = {"is_quiet": True, "own": {}, "recorded": {}, "links": {}, "notes": []}
+        return replace(self, **{**fresh, **changes})
 
     def scenario(self) -> Scenario:
-        """The scenario. A file that can't be read, and a length that a trace doesn't have, is a CcpError."""
+        """The scenario. A file that can't be read, and a limit of a case that is passed, is a CcpError."""
+        made = self.draft()
+        limits.refuse(self, made, is_of_mode=False)
+        return made
+
+    def draft(self) -> Scenario:
+        """The scenario, which may pass limits. A trace is cut to what the length needs where the whole of it is too
+        long for one run. A file that can't be read, and a length in which the link sends nothing, is a CcpError."""
         traces = self.read_traces()
+        self.links = {name: Trace(times) for name, times in traces.items()}
         found, programs = resolved([] if self.steps else self.senders, self.portus)
         for name in [name for one in self.steps or [] for name in one.steps]:
             if name not in programs:
@@ -291,28 +385,68 @@ class Grid:
         points = list(self.points(traces, self.steps or found))
         if self.shared:
             made["shared"] = with_length(self, traces, len(points))
-        made["cases"] = self.cases(traces, points)
+        made["cases"] = self.cases(points)
         if self.start_us:
             for case, start_us in zip(made["cases"], starts_of(self.start_us, len(points))):
                 case["start_us"] = start_us
+        if limits.is_too_long(made, self.is_whole):
+            self.cut_to_need(made)
         return made
 
+    def cut_to_need(self, made: Scenario) -> None:
+        """Leaves out of the scenario's traces what comes after the length that they are needed for."""
+        for name, link in self.links.items():
+            until_us = self.needed_us(made, name)
+            kept = link.times if until_us is None else needed_times(link.times, until_us)
+            if until_us is not None and len(kept) < len(link.times):
+                made["traces"][name] = trace_text(kept)
+                values = (name, kept[-1] / 1e3, link.times[-1] / 1e3, until_us / 1e6)
+                if not self.ends_with_need:
+                    text = "the trace %s: the first %g of its %g s are used: a flow that takes longer than %g s"
+                    self.notes.append(text % values + " meets them again")
+
+    @property
+    def ends_with_need(self) -> bool:
+        """Whether nothing is shown of what comes after the length that traces are needed for."""
+        return bool(self.shared)
+
+    def needed_us(self, made: Scenario, _name: str) -> int | None:
+        """Up to which time a trace is needed, in microseconds; None where only the acknowledgements are known."""
+        if self.shared:
+            return int(made["shared"]["rounds"] * made["shared"]["quantum_us"])
+        return self.seconds_us
+
     def read_traces(self) -> Dict[str, List[int]]:
-        """The times of each trace by its name."""
+        """The times of the packets of each trace by its name."""
         traces: Dict[str, List[int]] = {}
         paths = [path for _, path in self.traces]
         for at, (name, path) in enumerate(self.traces):
             if name in traces:
                 raise CcpError("two traces have the name %s" % name)
-            if path in paths[:at] and not self.is_quiet:
+            if path in paths[:at] and not self.is_quiet and not self.conditions:
                 warn("the trace %s is given more than once" % path)
-            traces[name or trace_name(path, traces)] = aggregation.times_of(self.read_times(path), self.aggregate, path)
+            name = name or trace_name(path, traces)
+            self.own[name] = self.conditions.get(at, Conditions())
+            self.recorded[name] = self.read_times(path)
+            traces[name] = self.aggregated(name, path)
         return traces
+
+    def aggregated(self, name: str, path: str) -> List[int]:
+        """The times of the packets of a trace."""
+        times, count = self.recorded[name], self.aggregate
+        made = aggregation.aggregated(times, count, path)
+        if made.left_over:
+            what = "the last %d of the %d chances of the trace %s" % (made.left_over, len(times), name)
+            share = 100 * made.left_over / len(times)
+            self.notes.append("--aggregate %d: %s go with the packet before: %.2g %% less" % (count, what, share))
+        return made.times
 
     def read_times(self, path: str) -> List[int]:
         """The times of a trace file, up to the cut where there is one."""
         cut = self.cut_ms
-        times = read_trace(path, None if cut else LIMITS["trace_ms"])
+        if path not in self.files:
+            self.files[path] = read_trace(path, None if cut else LIMITS["trace_ms"])
+        times = self.files[path]
         if not cut or times[-1] <= cut:
             return times
         kept = [time for time in times if time <= cut]
@@ -324,11 +458,24 @@ class Grid:
 
     def points(self, traces: Dict[str, Any], found: Sequence[Sender | Steps]) -> Iterator[Point]:
         """The points of the grid in order."""
+        for name in traces:
+            yield from self.points_of(name, self.own[name], found)
+
+    def points_of(self, name: str, own: Conditions, found: Sequence[Sender | Steps]) -> Iterator[Point]:
+        """The points of a trace."""
         no_window: Sequence[int | None] = [None]
-        draws = [(at, one, seed) for at, one in enumerate(self.losses) for seed in self.seeds_of(one)]
-        axes = itertools.product(traces, found, self.queue, self.delay_us, draws, self.mark, self.cwnd or no_window)
-        for name, by, queue, delay_us, (at, one, seed), mark_at, cwnd in axes:
+        losses = self.losses if own.loss is None else [own.loss]
+        draws = [(at, one, seed) for at, one in enumerate(losses) for seed in self.seeds_of(one)]
+        lengths = [own.queue] if own.queue else self.queue
+        marks: Sequence[int | None] = [own.mark] if own.mark else self.mark
+        delays = self.delay_us if own.delay_us is None else [own.delay_us]
+        axes = itertools.product(found, lengths, delays, draws, marks, self.cwnd or no_window)
+        for by, queue, delay_us, (at, one, seed), mark_at, cwnd in axes:
             yield Point(name, by, queue, delay_us, one, at, seed, mark_at, cwnd)
+
+    def timeout_of(self, name: str) -> int:
+        """The timeout on a trace, in microseconds."""
+        return self.own[name].timeout_us or self.timeout_us
 
     def seeds_of(self, one: Loss) -> Sequence[int | None]:
         """The seeds that a loss is drawn with: None alone where nothing is drawn."""
@@ -348,52 +495,35 @@ class Grid:
         ]
         return "-".join(["", point.sender.label] + [text for is_shown, text in shown_values if is_shown])
 
-    def cases(self, traces: Dict[str, List[int]], points: Sequence[Point]) -> List[Dict[str, Any]]:
+    def cases(self, points: Sequence[Point]) -> List[Dict[str, Any]]:
         """The cases of the points, each with a name of its own."""
         names = named([point.trace for point in points], [self.ending(point) for point in points])
         pairs = dict.fromkeys((point.trace, point.delay_us) for point in points)
-        links = {name: Trace(times) for name, times in traces.items()}
-        counts = {(name, delay_us): self.acks_of(links[name], name, delay_us) for name, delay_us in pairs}
-        return [
-            self.case(one, name, counts[one.trace, one.delay_us], self.queue_on(links[one.trace], one))
-            for one, name in zip(points, names)
-        ]
-
-    def queue_on(self, link: Trace, point: Point) -> int:
-        """The packets of a point's queue on its link."""
-        packets, most = point.queue.on(link, point.delay_us, self.aggregate), LIMITS["queue"]
-        if packets > most:
-            more = aggregation.needed(packets, most, self.aggregate, self.mss)
-            what = "a queue of %s of the trace %s" % (point.queue.label, point.trace)
-            raise CcpError("%s is %d packets, and at most %d may wait: a shorter queue%s" % (what, packets, most, more))
-        return packets
+        counts = {(name, delay_us): self.acks_of(self.links[name], name, delay_us) for name, delay_us in pairs}
+        return [self.case(one, name, counts[one.trace, one.delay_us]) for one, name in zip(points, names)]
 
     def acks_of(self, link: Trace, name: str, delay_us: int) -> int:
-        """The acknowledgements of a case: those asked for, or those that a busy link gives in the seconds asked for."""
+        """The acknowledgements of a case: those asked for, or those that a busy link gives in the seconds asked for.
+        They may be more than a case can have."""
         if not self.seconds_us or self.shared:
             return self.acks
-        most, length = LIMITS["acks"], self.seconds_us / 1e6
-        count = link.chances(self.seconds_us - delay_us)
-        if count > most:
-            longest = (link.chance_us(most - 1) + delay_us) // 1000
-            what = "%g s of the trace %s are %d acknowledgements, and a case has at most %d" % (
-                length,
-                name,
-                count,
-                most,
-            )
-            more = aggregation.needed(count, most, self.aggregate, self.mss)
-            raise CcpError("%s: --seconds %d.%03d%s" % (what, *divmod(longest, 1000), more))
+        count = self.acks_in(link, self.seconds_us, delay_us)
         if not count:
-            delay = milliseconds_text(delay_us)
-            raise CcpError("the trace %s has no chance in %g s less the delay of %s ms" % (name, length, delay))
+            values = (name, self.seconds_us / 1e6, milliseconds_text(delay_us))
+            raise CcpError("the trace %s has no chance in %g s less the delay of %s ms" % values)
         return count
 
-    def case(self, point: Point, name: str, acks: int, queue: int) -> Dict[str, Any]:
+    def acks_in(self, link: Trace, length_us: int, delay_us: int) -> int:
+        """The acknowledgements of a case that a busy link gives in a time."""
+        return link.chances(length_us - delay_us)
+
+    def case(self, point: Point, name: str, acks: int) -> Dict[str, Any]:
         """The case of a point. What the grid has in segments is counted in packets here."""
         count = self.aggregate
-        made: Dict[str, Any] = {"name": name, "trace": point.trace, "mss": self.mss * count, "queue": queue}
-        made.update(delay_us=point.delay_us, timeout_us=self.timeout_us, acks=acks)
+        queue = point.queue.on(self.links[point.trace], point.delay_us, count)
+        mss = self.own[point.trace].mss or self.mss
+        made: Dict[str, Any] = {"name": name, "trace": point.trace, "mss": mss * count, "queue": queue}
+        made.update(delay_us=point.delay_us, timeout_us=self.timeout_of(point.trace), acks=acks)
         if isinstance(point.sender, Steps):
             made.update(cwnd=point.cwnd, steps=list(point.sender.steps))
         else:
@@ -401,7 +531,9 @@ class Grid:
             made["lag"] = aggregation.packets_of(self.lag, count)
             programs = (("ss", point.sender.slow), ("ca", point.sender.avoid))
             made.update({key: value for key, value in programs if value})
-        lost = aggregation.lost_packets(point.loss.drawn(point.seed, 2 * acks * count), count)
+            made.update({"set_" + name: value for name, value in point.sender.numbers})
+        # a case of more acknowledgements is refused
+        lost = aggregation.lost_packets(point.loss.drawn(point.seed, 2 * min(acks, LIMITS["acks"]) * count), count)
         if lost:
             made["losses"] = lost
         mark_at = point.mark and aggregation.packets_of(point.mark, count)
@@ -423,6 +555,11 @@ def starts_of(given: Sequence[int], flows: int) -> List[int]:
     return starts
 
 
+def most_acks(link: Trace, span_us: int, timeout_us: int) -> int:
+    """One acknowledgement more than a case can have up to a time: one a chance, and one a timeout."""
+    return link.chances(span_us) + span_us // timeout_us + 1
+
+
 def with_length(grid: Grid, traces: Dict[str, List[int]], flows: int) -> Dict[str, Any]:
     """The member `shared`, with its rounds; where seconds are given, each flow may have all that the link serves."""
     link = dict(grid.shared or {})
@@ -431,51 +568,13 @@ def with_length(grid: Grid, traces: Dict[str, List[int]], flows: int) -> Dict[st
         raise CcpError("--shared: there is no trace %s; there are %s" % (link["trace"], ", ".join(traces)))
     if grid.seconds_us:
         link.setdefault("rounds", -(-grid.seconds_us // link["quantum_us"]))
-        if link["rounds"] > LIMITS["rounds"]:
-            length = grid.seconds_us / 1e6
-            text = "%g s are %d rounds, and a run has at most %d: a longer quantum"
-            raise CcpError(text % (length, link["rounds"], LIMITS["rounds"]))
         until = link["rounds"] * link["quantum_us"]
         served = Trace(traces[link["trace"]]).chances(until)
         grid.acks = min(served, LIMITS["acks"], LIMITS["acks_in_all"] // max(1, flows))
     return link
 
 
-# ---- limits
-
-
-def check_limits(mode: str, made: Scenario, size: int, is_whole: bool) -> None:
-    """Refuses what the limits of a mode forbid; `size` is that of the scenario's text in bytes. With `is_whole` only
-    what no part of the scenario could be is refused."""
-    cases, acks = len(made["cases"]), sum(case["acks"] for case in made["cases"])
-    out = "; --whole writes it for `ccp over%s`, which splits it" % SPLIT[mode] if mode in SPLIT else ""
-    if is_whole:
-        check_longest(made)
-    elif cases > CASES[mode]:
-        raise CcpError("%d cases: one run of `%s` has at most %d%s" % (cases, mode, CASES[mode], out))
-    elif mode != "campaign" and acks > LIMITS["acks_in_all"]:
-        text = "%d acknowledgements in all: one run of `%s` has at most %d: fewer by --acks or --seconds%s"
-        raise CcpError(text % (acks, mode, LIMITS["acks_in_all"], out))
-    elif size > LIMITS["input_bytes"]:
-        text = "%d bytes (%d of traces): one run has at most %d: fewer cases or losses, or traces cut by --cut MS%s"
-        raise CcpError(text % (size, bytes_of(made, made["traces"]), LIMITS["input_bytes"], out))
-
-
-def bytes_of(made: Scenario, traces: Mapping[str, Any] | Sequence[str]) -> int:
-    """The bytes of these traces in the scenario's text."""
-    with_them = {**made, "cases": [], "traces": {name: made["traces"][name] for name in traces}}
-    return len(scenario_text(with_them)) - len(scenario_text({**with_them, "traces": {}}))
-
-
-def check_longest(made: Scenario) -> None:
-    """Refuses a case that no run accepts, since it and its trace alone are too long."""
-    bare = len(scenario_text({**made, "traces": {}, "cases": []}))
-    traces = {name: bytes_of(made, [name]) for name in made["traces"]}
-    for case in made["cases"]:
-        size = bare + traces[case["trace"]] + len(scenario_text({"cases": [case]}))
-        if size > LIMITS["input_bytes"]:
-            what = "the case %s alone has %d bytes (%d of its trace)" % (case["name"], size, traces[case["trace"]])
-            raise CcpError("%s, and one run has at most %d: cut the trace by --cut MS" % (what, LIMITS["input_bytes"]))
+# ---- the size
 
 
 def size_text(mode: str, made: Scenario, size: int) -> str:
@@ -488,7 +587,7 @@ def size_text(mode: str, made: Scenario, size: int) -> str:
     ]
     for name, text in made["traces"].items():
         length = int(text.rsplit("\n", 2)[-2]) / 1e3
-        values = (name, text.count("\n"), length, bytes_of(made, [name]))
+        values = (name, text.count("\n"), length, limits.bytes_of(made, [name]))
         lines.append("trace %s chances=%d seconds=%g bytes=%d" % values)
     return "\n".join(lines) + "\n"
 
@@ -498,22 +597,22 @@ def size_text(mode: str, made: Scenario, size: int) -> str:
 
 def add_grid(parser: argparse.ArgumentParser) -> None:
     """Adds the trace files, the senders and the options of the grid, which `grid_of` reads, as for `ccp compare`."""
-    parser.add_argument(
-        "traces",
-        nargs="+",
-        type=trace,
-        metavar="[NAME=]TRACE-FILE",
-        help="a recording; there is a case or more for each",
-    )
-    add_senders(parser)
-    add_link(parser)
-    add_lengths(parser)
+    what = "a recording; there is a case or more for each"
+    parser.add_argument("traces", nargs="*", type=trace, metavar="[NAME=]TRACE-FILE", help=what)
+    add_senders(group_of(parser, "senders"))
+    add_set(group_of(parser, "senders"))
+    add_flows(group_of(parser, "senders"))
+    add_link(group_of(parser, "link"))
+    what = "a recording with conditions of its own: %s (again for another one)" % ", ".join(LINK_VALUES)
+    form = "[NAME=]TRACE-FILE:KEY=VALUE,.."
+    group_of(parser, "link").add_argument("--link", type=link, action="append", default=[], metavar=form, help=what)
+    add_lengths(group_of(parser, "length"))
 
 
-def add_link(parser: argparse.ArgumentParser) -> None:
+def add_link(group: argparse._ArgumentGroup) -> None:
     """Adds the lists of queues, delays, losses and marks of the grid."""
-    delay, lists, add = LIMITS["delay_us"], "LIST", parser.add_argument
-    queue = parser.add_mutually_exclusive_group()
+    delay, lists, add = LIMITS["delay_us"], "LIST", group.add_argument
+    queue = group.add_mutually_exclusive_group()
     what = "packets that may wait at the bottleneck, 1 to 4096, or a product of bandwidth and delay, as 100,1bdp (100)"
     queue.add_argument("--queue", type=queues, metavar=lists, help=what)
     what = "the same in milliseconds at the trace's mean rate"
@@ -534,19 +633,24 @@ def add_link(parser: argparse.ArgumentParser) -> None:
     add("--mark", type=ranges(mark, whole(1, LIMITS["mark"])), metavar=lists, help=what)
 
 
-def add_lengths(parser: argparse.ArgumentParser) -> None:
-    """Adds how long a case is, and what all cases of the grid have in common."""
-    add = parser.add_argument
+def add_flows(group: argparse._ArgumentGroup) -> None:
+    """Adds what the flows of all cases of the grid have in common."""
+    add = group.add_argument
     add("--mss", type=whole(1, LIMITS["segment_bytes"]), metavar="BYTES", help="bytes of a segment (1448)")
-    length = parser.add_mutually_exclusive_group()
-    what = "acknowledgements of a case, at most 65536 (4096); --aggregate reaches further"
-    length.add_argument("--acks", type=whole(0, LIMITS["acks"]), metavar="N", help=what)
-    length.add_argument("--seconds", type=seconds, metavar="S", help="the length in place of acknowledgements")
     what = "how long a sender waits if no acknowledgement can arrive, up to 60000 ms (1000)"
     add("--timeout-ms", type=milliseconds(1, LIMITS["timeout_us"]), metavar="MS", help=what)
     add("--slots", type=whole(1, LIMITS["slots"]), metavar="N", help="reports that may wait (4)")
     what = "acknowledgements that an answer takes in a campaign (0)"
     add("--lag", type=whole(0, LIMITS["lag"]), metavar="N", help=what)
+
+
+def add_lengths(group: argparse._ArgumentGroup) -> None:
+    """Adds how long a case is, how much of a trace it has, and how large a packet is."""
+    add = group.add_argument
+    length = group.add_mutually_exclusive_group()
+    what = "acknowledgements of a case, at most 65536 (4096); --aggregate reaches further"
+    length.add_argument("--acks", type=whole(0, LIMITS["acks"]), metavar="N", help=what)
+    length.add_argument("--seconds", type=seconds, metavar="S", help="the length in place of acknowledgements")
     add("--cut", type=whole(1, LIMITS["trace_ms"]), metavar="MS", help="only the times of each trace up to this one")
     what = "segments of a packet, which takes as many chances: for fast links (1)"
     add("--aggregate", type=whole(1, LIMITS["segment_bytes"]), metavar="K", help=what)
@@ -581,16 +685,25 @@ MEMBERS = {
     "timeout_ms": "timeout_us",
     "cut": "cut_ms",
     "quiet": "is_quiet",
+    "whole": "is_whole",
 }
 
 
 def grid_of(arguments: argparse.Namespace) -> Grid:
     """The grid that arguments ask for; what doesn't go together is a UsageError."""
+    set_numbers(arguments)
+    words: List[LinkWord] = getattr(arguments, "link", [])
+    if not arguments.traces and not words:
+        raise UsageError("the following arguments are required: [NAME=]TRACE-FILE")
     values = {MEMBERS.get(name, name): value for name, value in vars(arguments).items() if value is not None}
     values["queue"] = values.get("queue") or values.get("queue_ms") or [Queue(100)]
+    first = len(arguments.traces)
+    values["traces"] = [*arguments.traces, *((one.name, one.path) for one in words)]
+    values["conditions"] = {first + at: one.own for at, one in enumerate(words)}
     grid = Grid(**{name: value for name, value in values.items() if name in Grid.__dataclass_fields__})
     check_mode(grid, arguments)
-    if arguments.seeds and not any(one.chances and one.seed is None for one in grid.losses):
+    losses = [*grid.losses, *(one.own.loss for one in words if one.own.loss)]
+    if arguments.seeds and not any(one.chances and one.seed is None for one in losses):
         forms = "--losses rate:P or gilbert:P:R"
         raise UsageError("--seeds needs losses by chance without a seed of their own: %s" % forms)
     if grid.shared and "rounds" not in grid.shared and not grid.seconds_us:
@@ -598,6 +711,14 @@ def grid_of(arguments: argparse.Namespace) -> Grid:
     if MODES[grid.mode].kind == "rollout":
         grid.cwnd = grid.cwnd or [10 * grid.mss]
     return grid
+
+
+def set_numbers(arguments: argparse.Namespace) -> None:
+    """Makes the senders that --set asks for of those of --senders, once."""
+    settings, arguments.set = getattr(arguments, "set", []), []
+    if settings:
+        found = with_settings(arguments.senders or list(LIKE_LINUX.values()), arguments.portus, settings)
+        arguments.senders = [one for some in found for one in some]
 
 
 def check_mode(grid: Grid, arguments: argparse.Namespace) -> None:
@@ -616,6 +737,18 @@ def check_mode(grid: Grid, arguments: argparse.Namespace) -> None:
         raise UsageError("--whole is of --for campaign, timeline and acks: a run of %s can't be split" % grid.mode)
 
 
+def link_values(arguments: argparse.Namespace, grid: Grid) -> Dict[str, Any]:
+    """The options of add_link as a TOML file has them; None stands for one that isn't given."""
+    losses = [one.label + (":%d" % one.seed if one.seed is not None else "") for one in arguments.losses or []]
+    return {
+        "queue-ms" if arguments.queue_ms else "queue": [queue.text() for queue in grid.queue],
+        "losses": losses,
+        "seeds": arguments.seeds,
+        "mark": arguments.mark and ["none" if at is None else at for at in arguments.mark],
+        "delay-ms": arguments.delay_ms and [us / 1000 for us in arguments.delay_ms],
+    }
+
+
 def make(words: Sequence[str]) -> Scenario:
     """The scenario that `ccp scenario WORD..` prints. Its limits aren't checked."""
     parser = Parser(prog="ccp scenario")
@@ -626,11 +759,15 @@ def make(words: Sequence[str]) -> Scenario:
 def run(arguments: argparse.Namespace) -> int:
     """Prints the scenario, or its size."""
     grid = grid_of(arguments)
-    made = grid.scenario()
+    made = grid.draft()
     text = scenario_text(made)
     if arguments.dry_run:
         sys.stdout.write(size_text(grid.mode, made, len(text)))
-    check_limits(grid.mode, made, len(text), arguments.whole)
+    limits.refuse(grid, made)
+    if not grid.is_quiet:
+        # which part of a run is measured isn't known here, so nothing is said of its length
+        for note in [*grid.notes, *(one.line() for one in cautions.found(made, recorded=grid.recorded))]:
+            warn(note)
     if not arguments.dry_run:
         sys.stdout.write(text)
     return 0

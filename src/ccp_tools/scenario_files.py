@@ -3,14 +3,17 @@ from __future__ import annotations
 
 import json
 from pathlib import Path
-from typing import Any, Dict, Mapping
+from typing import Any, Dict, List, Mapping, Tuple, Union
 
-from .errors import CcpError
-from .files import PathLike, name_of, read_text, write_text
+from .errors import CcpError, cut
+from .files import PathLike, name_of, read_bytes, read_text, write_text
 
 Scenario = Dict[str, Any]
+# a scenario as a caller gives it: its members, its text, or the path of its file
+GivenScenario = Union[Mapping[str, Any], str, bytes, Path]
 # members of a case that each has, and whole numbers that it may have
-TEXTS, NEEDED, NUMBERS = ("name", "trace"), ("delay_us", "timeout_us"), ("mss", "queue", "acks", "lag", "slots", "mark")
+TEXTS, NEEDED = ("name", "trace"), ("mss", "queue", "delay_us", "timeout_us", "acks")
+NUMBERS = ("lag", "slots", "mark", "start_us")
 
 
 def scenario_of(text: str, place: str = "scenario") -> Scenario:
@@ -29,6 +32,18 @@ def scenario_of(text: str, place: str = "scenario") -> Scenario:
     return made
 
 
+def given_scenario(given: GivenScenario) -> Union[Mapping[str, Any], bytes]:
+    """The members or the bytes of a scenario that a caller gives: a text begins with {, and any other str is the path
+    of a file, as a Path is. Bytes stay as they are. Errors: CcpError where the file can't be read."""
+    if isinstance(given, (bytes, Mapping)):
+        return given
+    if isinstance(given, str) and given.lstrip("\ufeff \t\r\n").startswith("{"):
+        return given.encode("utf-8", "surrogateescape")
+    if isinstance(given, (str, Path)):
+        return read_bytes(given)
+    raise CcpError("a scenario is a dict, a text or the path of a file, not %s" % type(given).__name__)
+
+
 def read_scenario(path: PathLike) -> Scenario:
     """The scenario in a file, as a dict; `-` is standard input."""
     return scenario_of(read_text(path), name_of(path))
@@ -41,7 +56,16 @@ def read_run_scenario(path: PathLike) -> Scenario:
     wrong = wrong_member(scenario)
     if wrong:
         raise CcpError("%s: no scenario of ccp: %s is missing or of another kind" % (name_of(path), wrong))
+    for place, one in [("cases[%d]" % at, case) for at, case in enumerate(scenario["cases"])] + shared_of(scenario):
+        if one["trace"] not in scenario["traces"]:
+            what = "%s.trace names %s, and the scenario has no such trace" % (place, cut(one["trace"]))
+            raise CcpError("%s: no scenario of ccp: %s" % (name_of(path), what))
     return scenario
+
+
+def shared_of(scenario: Mapping[str, Any]) -> List[Tuple[str, Mapping[str, Any]]]:
+    """The member `shared` with its name, where there is one."""
+    return [("shared", scenario["shared"])] if scenario.get("shared") else []
 
 
 def wrong_member(scenario: Mapping[str, Any]) -> str:
@@ -58,9 +82,22 @@ def wrong_member(scenario: Mapping[str, Any]) -> str:
         numbers = [*NEEDED, *(name for name in NUMBERS if name in case)]
         wrong = [name for name in texts if not isinstance(case.get(name), str)]
         wrong += [name for name in numbers if not is_number(case.get(name))]
+        losses = case.get("losses", [])
+        wrong += ["losses"] if not isinstance(losses, list) or not all(map(is_number, losses)) else []
         if wrong:
             return "cases[%d].%s" % (at, wrong[0])
-    return ""
+    return wrong_shared(scenario.get("shared"))
+
+
+def wrong_shared(shared: Any) -> str:
+    """The same of the member `shared`, which a scenario may lack."""
+    if not shared:
+        return ""
+    if not isinstance(shared, dict):
+        return "shared"
+    numbers = [name for name in ("rounds", "quantum_us") if not is_number(shared.get(name))]
+    wrong = numbers if isinstance(shared.get("trace"), str) else ["trace"]
+    return "shared.%s" % wrong[0] if wrong else ""
 
 
 def is_number(value: Any) -> bool:

@@ -3,7 +3,7 @@
 A sender is an agent, as `reno`, or an agent with programs of your own:
 
     AGENT                       an agent, as reno or cubic, with its built-in programs
-    linux-reno, linux-cubic     these two with programs that come with ccp, like those of Linux
+    linux-reno, linux-cubic     programs that come with ccp, which do on each acknowledgement what Linux's senders do
     LABEL=PROGRAM               the program in slow start and in congestion avoidance, with Reno as the agent
     [LABEL=]AGENT:PROGRAM       the same with this agent
     [LABEL=]AGENT:SLOW:AVOID    a program for each; the built-in one where a program is left out, as in reno::AVOID
@@ -15,11 +15,13 @@ from __future__ import annotations
 import argparse
 from dataclasses import dataclass, replace
 from functools import partial
+from itertools import product
 from pathlib import Path
-from typing import Dict, List, Sequence, Tuple
+from typing import Dict, Iterator, List, Sequence, Tuple
 
-from .arguments import Parse, add_portus, is_name, list_of, one_of, shown
-from .errors import CcpError, UsageError
+from . import controls
+from .arguments import Parse, add_portus, is_name, list_of, one_of, ranges, shown, whole
+from .errors import CcpError, UsageError, cut
 from .files import read_text
 from .tables import AGENTS, LIMITS
 
@@ -37,13 +39,15 @@ OUTSIDE = ".py"
 class Sender:
     """A sender: its label, its agent, and its programs for slow start and for congestion avoidance. A program is a
     name of --portus or a file's path, and None where the built-in one runs. `file` is that of an agent outside, whose
-    agent is OWN and which has no such program."""
+    agent is OWN and which has no such program. `numbers` are control variables of the programs with their numbers,
+    where --set gives others than the programs declare."""
 
     label: str
     agent: str
     slow: str | None = None
     avoid: str | None = None
     file: str | None = None
+    numbers: Tuple[Tuple[str, int], ...] = ()
 
     def programs(self) -> List[str]:
         """Its own programs, each once."""
@@ -59,10 +63,12 @@ def program_of(name: str) -> str:
 LIKE_LINUX = {
     one.label: one
     for one in (
-        Sender("linux-reno", "reno", None, program_of("reno_ca")),
-        Sender("linux-cubic", "cubic", program_of("cubic_ss"), program_of("cubic_ca")),
+        Sender("linux-reno", "reno", program_of("linux_reno"), program_of("linux_reno")),
+        Sender("linux-cubic", "cubic", program_of("linux_cubic"), program_of("linux_cubic")),
     )
 }
+# the words of --senders where none is named
+DEFAULT = ",".join(LIKE_LINUX)
 
 
 def sender(text: str, accepts_outside: bool = False) -> Sender:
@@ -132,8 +138,8 @@ def check_labels(found: Sequence[Sender]) -> None:
 
 def add_senders(parser: argparse._ActionsContainer, most: int | None = None, required: bool = False) -> None:
     """Adds --senders LIST, as the list `arguments.senders` (None where it isn't given), and --portus NAME=FILE."""
-    forms = [*AGENTS, *LIKE_LINUX, "LABEL=PROGRAM", "LABEL=AGENT:PROGRAM"]
-    what = "the senders, with commas between: %s" % ", ".join(forms)
+    forms = [*LIKE_LINUX, *AGENTS, "LABEL=PROGRAM", "LABEL=AGENT:PROGRAM"]
+    what = "the senders, with commas between: %s (%s)" % (", ".join(forms), DEFAULT)
     parser.add_argument("--senders", type=list_of(sender, most), required=required, metavar="LIST", help=what)
     add_portus(parser)
 
@@ -146,18 +152,19 @@ def resolved(found: Sequence[Sender], portus: Sequence[Tuple[str, str]]) -> Tupl
     for one in found:
         slow, avoid = (named_in(one, role, texts) for role in ("slow", "avoid"))
         made.append(replace(one, slow=slow, avoid=avoid))
-    if len(texts) > LIMITS["named_programs"]:
-        raise CcpError("%d programs: a scenario has at most %d" % (len(texts), LIMITS["named_programs"]))
-    return made, texts
+    # a program that --set makes others of is none of the scenario's, unless a sender runs it as it is
+    changed = {name for one in found if one.numbers for name in one.programs()}
+    used = {name for one in found if not one.numbers for name in one.programs()}
+    return made, {name: text for name, text in texts.items() if name not in changed - used}
 
 
 def named_in(one: Sender, role: str, texts: Dict[str, str]) -> str | None:
     """The name of a sender's program in a role; a file's text is read, and added to the texts."""
     program = getattr(one, role)
-    if program is None or program in texts:
+    if program is None or program in texts and not one.numbers:
         return program
     name = name_in(one, role)
-    text = text_of_program(one, program)
+    text = with_numbers(one, texts[program] if program in texts else text_of_program(one, program))
     if not is_name(name) or texts.get(name, text) != text:
         raise CcpError("the sender %s: its program needs a name of its own: --portus NAME=%s" % (one.label, program))
     texts[name] = text
@@ -175,8 +182,8 @@ def files_of(found: Sequence[Sender], portus: Sequence[Tuple[str, str]]) -> Dict
     for one in found:
         for role in ("slow", "avoid"):
             program = getattr(one, role)
-            if program and program not in files:
-                files[name_in(one, role)] = program
+            if program and (one.numbers or program not in files):
+                files[name_in(one, role)] = files.get(program, program)
     return files
 
 
@@ -189,3 +196,69 @@ def text_of_program(one: Sender, program: str) -> str:
             more = "no --portus has the name %s, and there is no such file" % program
             raise CcpError("the sender %s: %s" % (one.label, more if "No such file" in str(error) else error)) from None
         raise
+
+
+# ---- --set
+
+Settings = Sequence[Tuple[str, List[int]]]
+
+
+def setting(text: str) -> Tuple[str, List[int]]:
+    """A parser of NAME=LIST, numbers of a control variable."""
+    name, is_there, values = text.partition("=")
+    if not is_there or not is_name(name):
+        raise argparse.ArgumentTypeError("%s isn't NAME=1,2,4 with the name of a control variable" % shown(text))
+    return name, ranges(whole(0, controls.MOST))(values)
+
+
+def add_set(parser: argparse._ActionsContainer) -> None:
+    """Adds --set NAME=LIST, as the list `arguments.set` of names with numbers."""
+    what = "numbers of a control variable of the senders' own programs, a sender each (again for another one)"
+    parser.add_argument("--set", type=setting, action="append", default=[], metavar="NAME=LIST", help=what)
+
+
+def with_settings(found: Sequence[Sender], portus: Sequence[Tuple[str, str]], settings: Settings) -> List[List[Sender]]:
+    """For each sender those that take its place: itself, or where its programs declare control variables of the
+    settings, one for each choice of their numbers, labelled by it. A variable that no sender's program declares is a
+    CcpError."""
+    names = [name for name, _ in settings]
+    twice = next((name for name in names if names.count(name) > 1), None)
+    if twice:
+        raise UsageError("--set: %s is there twice; its numbers have commas between, as %s=1,2" % (twice, twice))
+    declared = {one.label: declared_by(one, dict(portus)) for one in found}
+    for name in names:
+        if not any(name in those for those in declared.values()):
+            there = "; ".join("%s has %s" % (label, ", ".join(those)) for label, those in declared.items() if those)
+            raise CcpError("--set %s: no sender's own program declares it: %s" % (name, cut(there) or "there is none"))
+    made = []
+    for one in found:
+        own = [(name, values) for name, values in settings if name in declared[one.label]]
+        made.append(list(variants(one, own)) if own else [one])
+    check_labels([one for some in made for one in some])
+    return made
+
+
+def variants(one: Sender, settings: Settings) -> Iterator[Sender]:
+    """A sender for each choice of numbers. A label that gets too long loses the end of the sender's own."""
+    for values in product(*(values for _, values in settings)):
+        numbers = tuple(zip((name for name, _ in settings), values))
+        ending = "".join("-%s%d" % pair for pair in numbers)
+        room = LIMITS["scene_name_bytes"] - len(ending) - (0 if one.slow == one.avoid else len(".ss"))
+        if room < 1:
+            raise CcpError("--set: the name of a program would end with %s, which is too long" % ending)
+        yield replace(one, label=one.label[:room] + ending, numbers=numbers)
+
+
+def declared_by(one: Sender, portus: Dict[str, str]) -> List[str]:
+    """The control variables that a sender's own programs declare."""
+    texts = [text_of_program(one, portus.get(name, name)) for name in one.programs()]
+    return list(dict.fromkeys(name for text in texts for name in controls.declarations(text)))
+
+
+def with_numbers(one: Sender, text: str) -> str:
+    """A text of a sender's programs with its numbers, as far as the text declares them."""
+    declared = controls.declarations(text)
+    numbers = {name: value for name, value in one.numbers if name in declared}
+    for name in numbers:
+        controls.number_of(text, name, "the sender %s" % one.label)
+    return controls.with_numbers(text, numbers)

@@ -6,10 +6,10 @@ later. Senders with HyStart, as Linux's CUBIC, don't have this overflow (docs/fi
 
 from __future__ import annotations
 
-from typing import Any, List, Mapping, Sequence
+from typing import TYPE_CHECKING, Any, List, Mapping, Sequence
 
-import numpy as np
-import pandas as pd
+if TYPE_CHECKING:
+    import pandas as pd
 
 # The losses up to this time are counted as slow start's. In the 36 cases of bench/fidelity, with queues of 50 to 250
 # packets and 20 and 80 ms, slow start ends by its overflow within 4 s, also where the rate falls as on `wave`.
@@ -22,7 +22,7 @@ FIGURE = "slow_start_loss_share"
 def of_acks(case: Mapping[str, Any], frame: pd.DataFrame) -> float | None:
     """The share of the lost packets of acknowledgements that is lost up to UNTIL_US, from 0 to 1. None where nothing is
     lost, and where a case loses packets beside those of the queue, which may come at any time."""
-    lost = frame["lost_pkts_sample"].to_numpy().astype(np.int64)
+    lost = frame["lost_pkts_sample"].to_numpy().astype("int64")
     if not lost.any() or case.get("losses"):
         return None
     return float(lost[frame["now"].to_numpy() <= UNTIL_US].sum() / lost.sum())

@@ -285,6 +285,18 @@ COMMANDS: Dict[str, Command] = {
         modules=("pandas", "numpy", "scipy", "matplotlib", "jinja2"),
         does="compares senders over traces: tables, figures and a report",
     ),
+    "hunt": Command(
+        name="hunt",
+        module="hunt",
+        modules=("pandas", "numpy", "scipy", "matplotlib"),
+        does="finds a link on which a sender is bad, and makes it small",
+    ),
+    "tune": Command(
+        name="tune",
+        module="tune",
+        modules=(),
+        does="finds numbers of a program that do better on links, and checks them on others",
+    ),
     "scenario": Command(
         name="scenario",
         module="scenario",

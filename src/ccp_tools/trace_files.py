@@ -4,8 +4,8 @@
     read_text(path, what)   its text; `what` says in a message what was expected
     recognised(text)        what a text is that isn't what was expected, and what makes a trace of it
 
-A path `-` is standard input. A file has at most MOST_BYTES, packed or not, so that an endless one ends with an
-error."""
+A path `-` is standard input. A file is read and unpacked in pieces, up to its bound: MOST_TEXT bytes and MOST_LINES
+lines, and MOST_BYTES of a packet capture."""
 from __future__ import annotations
 
 import bz2
@@ -19,10 +19,15 @@ import zlib
 from typing import Any, Callable
 
 from .errors import CcpError
-from .files import MOST_BYTES, PathLike, checked_length, name_of, read_bytes
+from .files import MOST_BYTES, PIECE, Begun, PathLike, name_of, open_bytes, reason_of
+
+# the most bytes and lines of a text, unpacked: one of 60 s at 1 Gbit/s has 5 million lines. What a few bytes unpack to
+# costs a second at most up to here
+MOST_TEXT = 1 << 26
+MOST_LINES = 1 << 24
 
 # the bytes that a packed file begins with, what opens it, and what packed it
-Opener = Callable[[io.BytesIO], Any]
+Opener = Callable[[Any], Any]
 PACKED: list[tuple[bytes, Opener, str]] = [
     (b"\x1f\x8b", gzip.open, "gzip"),
     (b"\xfd7zXZ\x00", lzma.open, "xz"),
@@ -61,23 +66,47 @@ BINARIES = [
 
 def read_plain(path: PathLike) -> bytes:
     """The bytes of a file, unpacked. A file that can't be read, or is packed and damaged, is a CcpError."""
-    data = read_bytes(path, MOST_BYTES)
-    for magic, opener, name in PACKED:
-        if data.startswith(magic):
-            return unpacked(data, opener, name, path)
-    return data
+    file = open_bytes(path)
+    try:
+        beginning = file.read(PIECE)
+        begun = Begun(beginning, file)
+        for magic, opener, name in PACKED:
+            if beginning.startswith(magic):
+                return unpacked(begun, opener, name, path)
+        return bounded(begun, path)
+    except OSError as error:
+        raise CcpError("%s: %s" % (name_of(path), reason_of(error))) from None
+    finally:
+        if str(path) != "-":
+            file.close()
 
 
-def unpacked(data: bytes, opener: Opener, name: str, path: PathLike) -> bytes:
+def unpacked(packed: Begun, opener: Opener, name: str, path: PathLike) -> bytes:
     """The content of a packed file."""
     try:
-        with opener(io.BytesIO(data)) as file:
-            plain: bytes = file.read(MOST_BYTES + 1)
-        return checked_length(plain, path, MOST_BYTES)
+        with opener(packed) as file:
+            return bounded(file, path)
     except EOFError:
         raise CcpError("%s: it is packed by %s and cut: its end is missing" % (name_of(path), name)) from None
     except (OSError, lzma.LZMAError, zlib.error) as error:
         raise CcpError("%s: it is packed by %s and damaged: %s" % (name_of(path), name, error)) from None
+
+
+def bounded(file: Any, path: PathLike) -> bytes:
+    """The bytes of an open file, in pieces. More bytes or lines than its bound are a CcpError."""
+    whole, lines = io.BytesIO(), 0
+    piece = file.read(PIECE)
+    is_text = not is_capture(piece)
+    most = MOST_TEXT if is_text else MOST_BYTES
+    while piece:
+        lines += piece.count(b"\n")
+        if whole.tell() + len(piece) > most:
+            raise CcpError("%s: it has more than %d bytes, the most that are read" % (name_of(path), most))
+        if is_text and lines > MOST_LINES:
+            raise CcpError("%s: it has more than %d lines, the most that are read" % (name_of(path), MOST_LINES))
+        whole.write(piece)
+        piece = file.read(PIECE)
+    return whole.getvalue()
 
 
 def is_capture(data: bytes) -> bool:

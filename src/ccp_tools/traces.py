@@ -26,7 +26,9 @@ from __future__ import annotations
 import argparse
 import bisect
 import dataclasses
+import itertools
 import json
+import operator
 import re
 import sys
 from typing import Any, Dict, Iterable, List, Sequence
@@ -46,6 +48,17 @@ __all__ = ["Measured", "Trace", "measured_of_log", "nearest_rank", "read_trace",
 LONGEST_MS: int = LIMITS["trace_ms"]
 # Linux's least retransmission timeout: in a longer gap the timer of a real sender fires, and ccp has none
 LONG_GAP_MS = 200
+# the rate around which synthetic traces are made
+MEAN_MBPS = 12
+
+
+# a text of numbers of milliseconds alone
+PLAIN = re.compile(r"(?:[0-9]{1,18}\n)+")
+
+
+def is_rising(times: Sequence[int]) -> bool:
+    """Whether no time is below the one before it."""
+    return all(map(operator.le, times, itertools.islice(times, 1, None)))
 
 
 class Trace:
@@ -55,7 +68,7 @@ class Trace:
         self.times = list(times)
         if not self.times:
             raise CcpError("a trace has a time at least")
-        if any(b < a for a, b in zip(self.times, self.times[1:])):
+        if not is_rising(self.times):
             raise CcpError("the times of a trace don't fall")
         if not 0 < self.times[-1] <= LONGEST_MS or self.times[0] < 0:
             raise CcpError("the last time of a trace is from 1 to %d ms" % LONGEST_MS)
@@ -86,6 +99,12 @@ def trace_times(text: str, place: str = "trace", longest: int | None = LONGEST_M
             "%s:1: a byte order mark comes first; save the file as UTF-8 without it: `tail -c +4 FILE > NEW`" % place
         )
     times: List[int] = []
+    if PLAIN.fullmatch(text):
+        # nearly every file: a tenth of the time of a look at each line, which finds what is wrong in it
+        times = list(map(int, text.split()))
+        if is_rising(times) and times[-1] and (longest is None or times[-1] <= longest):
+            return times
+        times = []
     for number, line in enumerate(text.split("\n"), 1):
         line = line.rstrip("\r").strip(" \t")
         if not line:
@@ -124,6 +143,14 @@ def read_trace(path: PathLike, longest: int | None = LONGEST_MS) -> List[int]:
 def trace_text(times: Iterable[int]) -> str:
     """The text of a trace: a time a line."""
     return "".join("%d\n" % time for time in times)
+
+
+def needed_times(times: Sequence[int], until_us: int) -> Sequence[int]:
+    """The times of a trace that a run needs up to a time in microseconds: those up to it, and the next one.
+
+    A link of these alone gives every acknowledgement up to then as the whole trace does: a packet's chance depends on
+    the chances before it, and whether the queue is full on which packets have had theirs."""
+    return times[: bisect.bisect_right(times, until_us // 1000) + 1]
 
 
 def gaps_of(times: Sequence[int]) -> List[int]:
@@ -246,12 +273,21 @@ def scale(given: argparse.Namespace) -> None:
     if given.time:
         write([round(time * given.time) for time in times])
         return
-    factor = given.rate or given.mean / mbits(len(times), times[-1], given.packet)
-    count = max(1, round(len(times) * factor))
+    write(multiplied(times, len(times) * given.rate) if given.rate else with_mean(times, given.mean, given.packet))
+
+
+def with_mean(times: Sequence[int], mbps: float, size: int) -> List[int]:
+    """The trace with this mean rate, in Mbit/s of packets of `size` bytes, to the nearest whole number of chances."""
+    return multiplied(times, mbps / mbits(1, times[-1], size))
+
+
+def multiplied(times: Sequence[int], wanted: float) -> List[int]:
+    """The trace with about so many chances: those up to each time are as many times more, so that gaps, waves and the
+    length stay."""
+    count = max(1, round(wanted))
     if count > captures.MOST_CHANCES:
         raise CcpError("the trace would have %d chances, and at most %d are made" % (count, captures.MOST_CHANCES))
-    # the chances up to each time are the factor times as many as before, so gaps, waves and the length stay
-    write([times[-(-(number + 1) * len(times) // count) - 1] for number in range(count)])
+    return [times[-(-(number + 1) * len(times) // count) - 1] for number in range(count)]
 
 
 # ---- sources
@@ -365,16 +401,20 @@ def make(given: argparse.Namespace) -> None:
     length = round(1000 * given.seconds)
     if not 1 <= length <= LONGEST_MS:
         raise CcpError("--seconds is at least 0.001 and at most %d" % (LONGEST_MS // 1000))
-    mean = max(given.rates) if given.what == "steps" else given.mean
+    mean = max(given.rates) if given.what == "steps" else given.mean or MEAN_MBPS
     if synthetic.per_millisecond(mean, given.packet) * length > captures.MOST_CHANCES:
         raise CcpError("the trace would have more than %d chances" % captures.MOST_CHANCES)
-    if given.what == "lte":
-        write(synthetic.lte(length, given.mean, given.max, given.packet, given.seed))
-    elif given.what == "steps":
+    if given.what == "steps":
         write(synthetic.steps(length, given.rates, given.every, given.packet))
+        return
+    if given.what == "lte":
+        times = synthetic.lte(length, mean, given.max, given.packet, given.seed)
     else:
         maker = synthetic.wifi if given.what == "wifi" else synthetic.satellite
-        write(maker(length, given.mean, given.packet, given.seed))
+        times = maker(length, mean, given.packet, given.seed)
+    # with a highest rate the mean is lower, and more chances would pass that rate
+    is_exact = given.mean and times and times[-1] and not getattr(given, "max", None)
+    write(with_mean(times, given.mean, given.packet) if is_exact else times)
 
 
 # ---- arguments
@@ -517,9 +557,10 @@ def add_makers(kinds: Any) -> None:
         made = command(kinds, name, make, what + " Synthetic, by a seed.")
         made.add_argument("--seed", type=whole(0, 2**32 - 1), default=1, help="another seed is another trace (1)")
         made.add_argument("--seconds", type=positive, default=30, metavar="S", help="the length (30)")
-        made.add_argument("--mean", type=positive, default=12, metavar="MBIT", help="about the mean rate (12)")
+        made.add_argument("--mean", type=positive, metavar="MBIT", help="the mean rate (about %d)" % MEAN_MBPS)
         if name == "lte":
-            made.add_argument("--max", type=positive, metavar="MBIT", help="the highest rate (three times the mean)")
+            what = "the highest rate, with which the mean is lower (three times the mean)"
+            made.add_argument("--max", type=positive, metavar="MBIT", help=what)
             deprecated(made, "--most", "--max")
     made = command(kinds, "steps", make, "Constant rates one after another.")
     rates = list_of(positive)

@@ -118,22 +118,35 @@ is_started_by_shell() {
 }
 
 # Prints the program's error line. A closed pipe ends silently, as that of any filter. At a terminal a refusal names the
-# FILE, and a second line says what explains it; elsewhere the program's line stands alone, as the pages show it.
+# FILE, and a second line says what explains it; elsewhere the program's line stands alone, as the pages show it. Where a
+# trace was given for a scenario, a second line says so everywhere.
 print_errors() {
+    local hint=''
     if [ "$status" = 5 ] && { [ -p /dev/stdout ] || [ -S /dev/stdout ]; }; then
         status=141
         return
     fi
-    if [ "$status" = 3 ] && [ -t 2 ]; then
-        if [ ${#files[@]} = 1 ] && [ "${files[0]}" != - ]; then error_line="ccp: ${files[0]}: ${error_line#ccp: }"; fi
-        case ${kind_of[$mode]} in
-            feed | nothing) ;;
-            *) error_line+="ccp: $(words_of_explain) says what is wrong, where, and what is accepted"$'\n' ;;
-        esac
+    if [ "$status" = 3 ]; then
+        if [ "$error_line" = $'ccp: input refused: json\n' ] && is_given_trace; then
+            hint="ccp: this is a trace, and $mode reads a scenario: $(words_of_compare) compares senders over it"$'\n'
+        elif [ -t 2 ] && ! is_one_of "${kind_of[$mode]}" feed nothing; then
+            hint="ccp: $(words_of_explain) says what is wrong, where, and what is accepted"$'\n'
+        fi
+        if [ -t 2 ] && [ ${#files[@]} = 1 ] && [ "${files[0]}" != - ]; then
+            error_line="ccp: $(short "${files[0]}"): ${error_line#ccp: }"
+        fi
+        error_line+=$hint
     fi
     if [ -z "$error_line" ]; then return; fi
     await_pager
     printf %s "$error_line" >&2
+}
+
+# The command that takes the trace which was given.
+words_of_compare() {
+    local file=FILE
+    if [ "${files[0]--}" != - ] && [ ${#files[0]} -le 100 ]; then printf -v file %q "${files[0]}"; fi
+    printf '%s compare %s --senders reno,cubic --out out' "$called" "$file"
 }
 
 # The command that explains a refusal of this input.

@@ -20,12 +20,16 @@
 #     older       release/ has that of an older state of the sources
 #     none        release/ has nothing
 #     bad TEXT    release/ has their program in a bad state; TEXT says what is wrong and what to do
+#
+# or, which is never kept, since a later call may find out:
+#
+#     failed TEXT    it can't be known, since a command failed; TEXT names it
 find_anew() {
     finding=none
     if [ ! -e "$proved" ] && [ ! -e "$released" ] && [ ! -e "$here/release/PROVENANCE" ]; then return; fi
     if mkdir -p "$kept" 2>/dev/null && { : > "$known.begun.$$"; } 2>/dev/null; then
         judge_programs
-        keep_finding
+        if [ "${finding%% *}" = failed ]; then rm -f "$known.begun.$$"; else keep_finding; fi
         return
     fi
     judge_programs
@@ -36,7 +40,8 @@ find_anew() {
 
 # Whether nothing changed since the finding was begun, by a search of all folders: an older find takes no list.
 is_unchanged() {
-    [ -z "$(cd "$here/crates" && find_sources -cnewer "$known" -print -quit 2>&1)" ]
+    local changed
+    changed=$(cd "$here/crates" 2>/dev/null && find_sources -cnewer "$known" -print -quit 2>&1) && [ -z "$changed" ]
 }
 
 # Finds the folders and files that a finding depends on, with further words of find, from the folder of the crates.
@@ -52,7 +57,7 @@ find_sources() {
 keep_finding() {
     local begun=$known.begun.$$ rest=$known.rest.$$ new=$known.new.$$
     if printf '%s\n%s\n' "$is_there" "$finding" > "$new" && touch -r "$begun" "$new" \
-        && (cd "$here/crates" && find_sources \( -name '*.antt' -fprint0 "$rest" -o -print0 \)) > "$begun" \
+        && (cd "$here/crates" 2>/dev/null && find_sources \( -name '*.antt' -fprint0 "$rest" -o -print0 \)) > "$begun" \
         && mv "$begun" "$known.sources" && mv "$rest" "$known.antt" && mv "$new" "$known"; then return; fi
     rm -f "$begun" "$rest" "$new"
 }
@@ -64,18 +69,21 @@ judge_programs() {
 
 # Sets `finding` by what release/ has now.
 judge_release() {
-    local sources wanted='' line
+    local sources wanted=''
     finding=none
     if [ ! -e "$released" ] && [ ! -e "$here/release/PROVENANCE" ]; then return; fi
-    sources=$("$here/tools/launcher/source-sum")
+    sources=$(cd "$here" 2>/dev/null && tools/launcher/source-sum 2>&1) || :
     wanted=$(of_provenance sources)
-    if [ -z "$wanted" ]; then
+    if [[ ! $sources =~ ^[0-9a-f]{64}$ ]]; then
+        finding="failed the sum over the sources failed (${sources##*$'\n'})"
+    elif [ -z "$wanted" ]; then
         finding="bad release/PROVENANCE doesn't say of which sources release/ccp is: git checkout -- release brings it back"
     elif [ "$sources" != "$wanted" ]; then
         finding=older
     else
         finding=$(state_of_program)
     fi
+    finding=${finding:-failed the state of release/ccp was not found out}
 }
 
 # What PROVENANCE says of $1.
@@ -89,18 +97,36 @@ of_provenance() {
 
 # What the program of these sources is worth, as a finding.
 state_of_program() {
-    local restored='git checkout -- release brings it back' said
+    local restored='git checkout -- release brings it back' said status
     if [ ! -f "$released" ]; then
         echo "bad release/ccp is missing: $restored"
     elif [ ! -r "$released" ]; then
         echo "bad release/ccp can't be read: chmod +r release/ccp"
-    elif ! (cd "$here/release" && sha256sum --check --status SHA256SUMS) 2>/dev/null; then
-        echo "bad release/ccp doesn't have the SHA-256 of release/SHA256SUMS, as where one of them was cut off: $restored"
+    elif ! said=$(cd "$here/release" 2>/dev/null && LC_ALL=C sha256sum --check SHA256SUMS 2>&1); then
+        if [[ $said == *'ccp: FAILED'* || ! -r $here/release/SHA256SUMS || $said == *'no properly formatted'* ]]; then
+            echo "bad release/ccp doesn't have the SHA-256 of release/SHA256SUMS, as where one of them was cut off: $restored"
+        else
+            echo 'failed the sum over release/ccp failed (sha256sum)'
+        fi
+    elif [ "$said" != 'ccp: OK' ]; then
+        echo 'failed the sum over release/ccp failed (sha256sum)'
     elif [ ! -x "$released" ]; then
         echo "bad release/ccp has no run bit: chmod +x release/ccp"
-    elif said=$("$released" 2>&1 < /dev/null) || [ "$said" != 'ccp: words refused' ]; then
-        echo "bad release/ccp, a program for x86-64 Linux, doesn't run on this machine ($(uname -sm)): ./ccp --prove builds one here"
     else
+        said=$(LC_ALL=C "$released" 2>&1 < /dev/null)
+        status=$?
+        judge_answer
+    fi
+}
+
+# What the program's answer `said` to missing words is worth, which ended with `status`. A program that was killed, or for
+# which no memory or process was left, says nothing about this machine.
+judge_answer() {
+    if [ "$status" = 2 ] && [ "$said" = 'ccp: words refused' ]; then
         echo same
+    elif [ "$status" = 6 ] || { [ "$status" -gt 128 ] && [ "$status" != 132 ]; } || [[ $said =~ 'annot allocate'|'temporarily unavailable'|'failed to map' ]]; then
+        echo "failed release/ccp ended with status $status on a trial"
+    else
+        echo "bad release/ccp, a program for x86-64 Linux, doesn't run on this machine ($(uname -sm)): ./ccp --prove builds one here"
     fi
 }

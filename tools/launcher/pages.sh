@@ -107,6 +107,7 @@ version_of_checkout() {
         return
     fi
     find_proved
+    refuse_unknown
     case $finding in
         built) echo "program: crates/ccp/out/ccp, proved with $(toolchain_of_built), and no source is newer" ;;
         same) echo "program: release/ccp, proved with $(toolchain_of_release), of the sources that this checkout has" ;;
@@ -141,6 +142,7 @@ proof_of() {
     elif is_same "$1" "$released" && is_released; then
         echo "proved with $(toolchain_of_release)"
     else
+        refuse_unknown
         echo 'of which no proof is known here'
     fi
 }

@@ -8,7 +8,7 @@ refuse_mode() {
     join_by ', ' "${modes[@]}"
     list=$joined
     join_by ', ' "${commands[@]}"
-    wrong="${1:-the empty word} is no mode$meant: the modes are $list, and the commands $joined"
+    wrong="$(short "${1:-the empty word}") is no mode$meant: the modes are $list, and the commands $joined"
 }
 
 # Sets `wrong` to what is said of $1, which is no option.
@@ -17,7 +17,7 @@ refuse_option() {
     for row in "${option_rows[@]}"; do names+=("--${row%%$'\t'*}"); done
     find_meant "$1" "${names[@]}" --help --version --prove
     join_by ', ' "${names[@]}"
-    wrong="$1 is no option$meant: the options are $joined"
+    wrong="$(short "$1") is no option$meant: the options are $joined"
     if [ "$1" = --prove ]; then wrong='--prove comes first, and without a mode'; fi
 }
 

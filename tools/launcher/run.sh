@@ -7,8 +7,12 @@ released=$here/release/ccp
 # where what is built and what is known of it are kept: in the checkout, or, where that can't be written, in the cache
 kept=$here/crates/ccp/out
 if [ -d "$here/crates" ] && { [ ! -w "$here/crates/ccp" ] || { [ -e "$kept" ] && [ ! -w "$kept" ]; }; }; then
-    # without a home there is no such place: what others could write must not be run
-    kept=${XDG_CACHE_HOME:-${HOME:-/dev/null}/.cache}/ccp/${here//\//%}
+    # without a home there is no such place: what others could write must not be run. A relative folder is none, as the
+    # XDG Base Directory Specification says
+    kept=/dev/null/.cache
+    case ${HOME-} in /*) kept=$HOME/.cache ;; esac
+    case ${XDG_CACHE_HOME-} in /*) kept=$XDG_CACHE_HOME ;; esac
+    kept+=/ccp/${here//\//%}
 fi
 # the unproved program, compiled with checks
 checked=$kept/checked/ccp
@@ -23,18 +27,25 @@ begin_search() {
     if [ -n "${CCP_PROGRAM:-}" ] || [ ! -e "$known" ] || [ ! -e "$known.antt" ]; then return; fi
     # shellcheck disable=SC2185
     exec {search}< <(
+        # where the current folder was removed, cd itself prints a line
+        cd "$here/crates" 2>/dev/null || echo failed
         exec 2>&1
-        cd "$here/crates" || exit
         export LC_ALL=C
         find -files0-from "$known.antt" -maxdepth 0 -cnewer "$known" -print -quit &
-        find -files0-from "$known.sources" -maxdepth 0 -cnewer "$known" -print -quit
-        wait
+        find -files0-from "$known.sources" -maxdepth 0 -cnewer "$known" -print -quit || echo failed
+        wait $! || echo failed
     )
     searcher=$!
 }
 
 # the launcher needs the answer for a mode, and reads the rest meanwhile
 if [ -n "${needs_search-}" ]; then begin_search; fi
+
+# Prints at most 200 bytes of a name, for a message.
+short() {
+    local LC_ALL=C
+    if [ ${#1} -le 200 ]; then printf %s "$1"; else printf %s.. "${1:0:198}"; fi
+}
 
 fail() {
     printf 'ccp: %s\n' "$1" >&2
@@ -43,7 +54,10 @@ fail() {
 
 # Whether the program $1 is there, and no source is newer.
 is_current() {
-    [ -x "$1" ] && [ -z "$(newer_source "$1")" ]
+    local newer
+    [ -x "$1" ] || return 1
+    newer=$(newer_source "$1") || fail "the search for sources that are newer than $1 failed (find)"
+    [ -z "$newer" ]
 }
 
 # A source that is newer than the program $1. Of the folders named `out` only a crate's own is left out: the proofs of a
@@ -56,7 +70,8 @@ newer_source() {
 # Sets `finding` to what proved program there is of the sources of this checkout (finding.sh). What was found before holds
 # where nothing changed since then.
 find_proved() {
-    local changed=unknown is_there=$HOSTTYPE was_there
+    # the number is that of the form in which a finding is kept
+    local changed=unknown is_there="2 $HOSTTYPE" was_there
     if [ -e "$proved" ]; then is_there+=' built'; fi
     if [ -e "$here/release" ]; then is_there+=' release'; fi
     if [ -z "$search" ]; then begin_search; fi
@@ -87,6 +102,12 @@ is_released() {
     [ "$finding" = same ]
 }
 
+# Ends where it can't be known which program is of these sources.
+refuse_unknown() {
+    local found=${finding-}
+    if [ "${found%% *}" = failed ]; then fail "${found#failed }: try again, or name a program by CCP_PROGRAM=PATH"; fi
+}
+
 # Prints what is wrong with the program in release/ and what to do, if it is in a bad state.
 print_bad_release() {
     if [ "${finding%% *}" = bad ]; then printf 'ccp: %s\n' "${finding#bad }" >&2; fi
@@ -97,7 +118,7 @@ choose_program() {
     is_proved=yes
     if [ -n "${CCP_PROGRAM:-}" ]; then
         if [ ! -f "$CCP_PROGRAM" ] || [ ! -x "$CCP_PROGRAM" ]; then
-            fail "CCP_PROGRAM names $CCP_PROGRAM, which is no program"
+            fail "CCP_PROGRAM names $(short "$CCP_PROGRAM"), which is no program"
         fi
         chosen=$CCP_PROGRAM
     elif [ ! -d "$here/crates" ]; then
@@ -105,6 +126,7 @@ choose_program() {
         if [ ! -x "$chosen" ]; then fail "there is no program at $chosen; CCP_PROGRAM=PATH names another"; fi
     else
         find_proved
+        refuse_unknown
         case $finding in
             built) chosen=$proved ;;
             same) chosen=$released ;;
@@ -163,7 +185,7 @@ run_mode() {
         run_checked
     fi
     # only where nothing may be left to say is the program run in this shell's place
-    if [ ! -t 2 ] && [ ! -p /dev/stdout ] && [ ! -S /dev/stdout ]; then
+    if [ ! -t 2 ] && [ ! -p /dev/stdout ] && [ ! -S /dev/stdout ] && ! is_given_trace; then
         if [ ${#files[@]} -gt 1 ]; then exec "$chosen" "${words[@]}" < <(input_of_files); fi
         if [ "${files[0]--}" != - ]; then exec < "${files[0]}"; fi
         exec "$chosen" "${words[@]}"
@@ -172,6 +194,17 @@ run_mode() {
     . "$launcher/beside.sh"
     run_beside "$chosen"
     exit "$status"
+}
+
+# Whether the mode reads a scenario, and its input looks like a trace: the first line of it, or of the first FILE, is a
+# time. Only a file is looked at, since what is read of a pipe is gone.
+is_given_trace() {
+    local line='' path=${files[0]--}
+    case ${kind_of[$mode]} in program | fold | feed | nothing) return 1 ;; esac
+    if [ "$path" = - ]; then path=/dev/stdin; fi
+    if [ ! -f "$path" ]; then return 1; fi
+    { IFS= read -rn 24 line < "$path"; } 2>/dev/null
+    [[ $line =~ ^[[:blank:]]*[0-9]+[[:space:]]*$ ]]
 }
 
 # What the program reads: the FILEs, two of them joined by the line ---.

@@ -1,7 +1,7 @@
 # shellcheck shell=bash disable=SC2034
 # Written by tools/write-tables from the definitions of the crates and tools/modes.json; don't edit it.
 modes=(check fold campaign timeline acks live shared shared-timeline shared-acks rollout audit feed drive drive-table drive-timeline drive-acks soak)
-commands=(compare scenario trace metrics plot explain table verify over)
+commands=(compare hunt tune scenario trace metrics plot explain table verify over)
 # the FILEs that a mode takes
 declare -A files_of=([check]=FILE [fold]='PROGRAM ACKS' [campaign]=FILE [timeline]=FILE [acks]=FILE [live]=FILE [shared]=FILE [shared-timeline]=FILE [shared-acks]=FILE [rollout]=FILE [audit]='SCENARIO TEXT' [feed]=FILE [drive]='SCENARIO FRAMES' [drive-table]='SCENARIO FRAMES' [drive-timeline]='SCENARIO FRAMES' [drive-acks]='SCENARIO FRAMES' [soak]='')
 # the form of a mode's input

@@ -23,6 +23,8 @@ mode_rows=(
 # of each sub-command its name and what it does, with a tab between
 command_rows=(
     'compare	compares senders over traces: tables, figures and a report'
+    'hunt	finds a link on which a sender is bad, and makes it small'
+    'tune	finds numbers of a program that do better on links, and checks them on others'
     'scenario	makes a scenario from traces and a grid of senders, queues, delays and losses'
     'trace	shows, cuts, makes and converts traces of links'
     'metrics	throughput, delay, loss and fairness of each case'

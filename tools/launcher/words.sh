@@ -58,16 +58,16 @@ read_option() {
     if [ -z "$least" ]; then
         refuse_option "$1"
     elif [[ $given == *" $name "* ]]; then
-        wrong="$1 is given twice: each option may be given once"
+        wrong="$(short "$1") is given twice: each option may be given once"
     elif [ "$least" = - ]; then
-        if [ $# -gt 1 ]; then wrong="$1=$2: $1 takes no value"; fi
+        if [ $# -gt 1 ]; then wrong="$(short "$1=$2"): $1 takes no value"; fi
         options+=("$1")
     else
         if [ $# -gt 1 ]; then value=$2 written=$1=$2; else value=${following[0]-} written="$1${value:+ $value}" taken=1; fi
         if is_number "$value" "$least" "$most"; then
             options+=("$1=$value")
         else
-            wrong="$written: $1 takes a whole number from $least to $most"
+            wrong="$(short "$written"): $1 takes a whole number from $least to $most"
         fi
     fi
     given+="$name "
@@ -83,17 +83,17 @@ read_place() {
     elif [ -z "$1" ]; then
         wrong='an empty word is no option and no FILE'
     elif [ "$1" != - ] && [ ! -e "$1" ]; then
-        wrong="there is no file $1"
+        wrong="there is no file $(short "$1")"
     elif [ -d "$1" ]; then
-        wrong="$1 is a folder, and a FILE is accepted"
+        wrong="$(short "$1") is a folder, and a FILE is accepted"
     elif [ "$1" != - ] && [ ! -r "$1" ]; then
-        wrong="$1 can't be read"
+        wrong="$(short "$1") can't be read"
     else
         files+=("$1")
         # shellcheck disable=SC2206
         taken_files=(${files_of[$mode]})
         if [ ${#files[@]} -gt ${#taken_files[@]} ]; then
-            wrong="$1 is one FILE too many: $mode takes ${#taken_files[@]}"
+            wrong="$(short "$1") is one FILE too many: $mode takes ${#taken_files[@]}"
             wrong=${wrong/%takes 0/takes none}
         fi
     fi

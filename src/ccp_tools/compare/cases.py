@@ -5,25 +5,46 @@ from __future__ import annotations
 from dataclasses import dataclass, field
 from typing import Any, Dict, List, Mapping, Sequence, Tuple
 
-from .. import aggregation
+from .. import aggregation, cautions, limits, slow_start
 from ..errors import CcpError
-from ..scenario import Grid
+from ..parts import has_many_programs, with_used_programs
+from ..scenario import Grid, most_acks
+from ..scenario_files import Scenario
 from ..senders import OWN
 from ..tables import LIMITS
 from ..traces import Trace
 
-# traces begin anew after their end, and what is measured over less is the beginning alone
-LEAST_US = 15_000_000
+# traces begin anew after their end, and in a shorter run slow start has a large part
+LEAST_US = cautions.SHORT_US
+# what is left out of a run of LEAST_US or more, and the shortest run of which anything is left out
+FIRST_US = slow_start.UNTIL_US
+LEAST_WITHOUT_FIRST_US = 10_000_000
 
 
 @dataclass
 class Comparison(Grid):
     """A grid in which the cases of a trace have so many acknowledgements that none ends before the trace's `spans_us`,
-    where they aren't measured by acknowledgements."""
+    where they aren't measured by acknowledgements. `shortened` has the reason, by trace, where a limit made a span
+    shorter than the recording."""
 
     is_by_acks: bool = False
     spans_us: Dict[str, int] = field(default_factory=dict)
-    notes: List[str] = field(default_factory=list)
+    shortened: Dict[str, str] = field(default_factory=dict)
+
+    def changed(self, **changes: Any) -> Grid:
+        """The same comparison with other members, which says nothing, and reads no file again."""
+        return super().changed(**{"spans_us": {}, "shortened": {}, **changes})
+
+    def scenario(self) -> Scenario:
+        """The scenario. A file that can't be read, and a limit of a case or of its bytes, is a CcpError."""
+        made = self.draft()
+        limits.refuse(self, made)
+        return made
+
+    @property
+    def ends_with_need(self) -> bool:
+        """Every figure is of what comes before the end of a span."""
+        return True
 
     def acks_of(self, link: Trace, name: str, delay_us: int) -> int:
         """The acknowledgements of a case: more than any sender can have up to the end of the span."""
@@ -31,29 +52,56 @@ class Comparison(Grid):
             return self.acks
         if name not in self.spans_us:
             self.spans_us[name] = self.chosen_us(link, name)
-        return most_acks(link, self.spans_us[name], self.timeout_us)
+        return most_acks(link, self.spans_us[name], self.timeout_of(name))
+
+    def acks_in(self, link: Trace, length_us: int, _delay_us: int) -> int:
+        """More acknowledgements than any sender can have in a time."""
+        return most_acks(link, length_us, min([self.timeout_us, *map(self.timeout_of, self.own)]))
+
+    def needed_us(self, _made: Scenario, name: str) -> int | None:
+        """Up to which time a trace is needed: the whole rounds of its span, which all senders together run."""
+        if self.is_by_acks:
+            return None
+        quantum_us, rounds = rounds_of(self.spans_us[name])
+        return quantum_us * rounds
 
     def chosen_us(self, link: Trace, name: str) -> int:
         """The seconds that the senders of a trace are measured over, in microseconds."""
-        wanted = self.seconds_us or max(LEAST_US, link.period_us)
-        if most_acks(link, wanted, self.timeout_us) <= LIMITS["acks"]:
-            span = wanted
-        else:
-            span = longest_us(link, self.timeout_us)
-            room = LIMITS["acks"] - wanted // self.timeout_us - 1
-            more = aggregation.needed(link.chances(wanted), room, self.aggregate, self.mss)
-            what = "%g s of the trace %s need more than %d acknowledgements" % (wanted / 1e6, name, LIMITS["acks"])
-            if self.seconds_us:
-                raise CcpError("%s: --seconds %g%s" % (what, span / 1e6, more))
-            self.notes.append("%s: measured over %g s (--seconds %g%s)" % (what, span / 1e6, span / 1e6, more))
+        span = self.seconds_us or max(LEAST_US, 1000 * self.recorded[name][-1])
+        if not self.seconds_us and most_acks(link, span, self.timeout_of(name)) > LIMITS["acks"]:
+            wanted, span = span, longest_us(link, self.timeout_of(name))
+            what = "%g s need more than %d acknowledgements" % (wanted / 1e6, LIMITS["acks"])
+            more = self.longer(name, wanted)
+            self.shortened[name] = what + more.replace(", or", "; it is whole with")
+            values = (name, span / 1e6, what, span / 1e6, more)
+            self.notes.append("the trace %s is measured over %g s: %s (--seconds %g%s)" % values)
         if not link.chances(span):
             raise CcpError("the trace %s has no chance in %g s" % (name, span / 1e6))
         return span
 
+    def longer(self, name: str, wanted_us: int) -> str:
+        """The option with which a trace can be measured over a time, as `, or --aggregate 4`; nothing where none is."""
+        for count in range(self.aggregate + 1, LIMITS["segment_bytes"] // self.mss + 1):
+            link = Trace(aggregation.aggregated(self.recorded[name], count, name).times)
+            if most_acks(link, wanted_us, self.timeout_of(name)) <= LIMITS["acks"]:
+                return ", or --aggregate %d" % count
+        return ""
 
-def most_acks(link: Trace, span_us: int, timeout_us: int) -> int:
-    """One acknowledgement more than a case can have up to a time: one a chance, and one a timeout."""
-    return link.chances(span_us) + span_us // timeout_us + 1
+
+def begin_of(span_us: int | None) -> int:
+    """Where a run of a length is measured from, unless --from says it, in microseconds: FIRST_US, in proportion less of
+    a run that is shorter than LEAST_US, to a tenth of a second; 0 below LEAST_WITHOUT_FIRST_US, and where the length
+    isn't known."""
+    if span_us is None or span_us < LEAST_WITHOUT_FIRST_US:
+        return 0
+    return min(FIRST_US, FIRST_US * span_us // LEAST_US // 100_000 * 100_000)
+
+
+def rounds_of(span_us: int) -> Tuple[int, int]:
+    """The least quantum of whole milliseconds, in microseconds, whose rounds one run takes for a span, and how many
+    these are."""
+    quantum_us = 1000 * max(1, -(-span_us // (1000 * LIMITS["rounds"])))
+    return quantum_us, -(-span_us // quantum_us)
 
 
 def longest_us(link: Trace, timeout_us: int) -> int:
@@ -85,10 +133,10 @@ def parts_of(scenario: Dict[str, Any]) -> List[Tuple[int, Dict[str, Any]]]:
 
 
 def part_of(scenario: Dict[str, Any], cases: Sequence[Dict[str, Any]]) -> Dict[str, Any]:
-    """The scenario with some cases alone, and their traces."""
+    """The scenario with some cases alone, their traces, and where it has too many programs for one run theirs."""
     names = {case["trace"] for case in cases}
     traces = {name: text for name, text in scenario["traces"].items() if name in names}
-    return {**scenario, "cases": list(cases), "traces": traces}
+    return with_used_programs({**scenario, "cases": list(cases), "traces": traces})
 
 
 def fits(scenario: Dict[str, Any], cases: Sequence[Dict[str, Any]]) -> bool:
@@ -97,4 +145,5 @@ def fits(scenario: Dict[str, Any], cases: Sequence[Dict[str, Any]]) -> bool:
 
     if len(cases) > LIMITS["flows"] or sum(case["acks"] for case in cases) > LIMITS["acks_in_all"]:
         return False
-    return len(scenario_text(part_of(scenario, cases))) <= LIMITS["input_bytes"]
+    part = part_of(scenario, cases)
+    return not has_many_programs(part) and len(scenario_text(part)) <= LIMITS["input_bytes"]

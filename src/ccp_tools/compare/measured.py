@@ -10,8 +10,6 @@ from typing import Any, Dict, List, Mapping, Sequence, Tuple
 from ..arguments import is_name
 from ..link_logs import Measured, measured_of, read_log, times_of
 from ..metrics import Window
-from ..scenario_files import Scenario
-from ..traces import trace_times
 from .report import TABLE, Row
 
 # a span that differs by at most this share counts as the same: a log's begins with its first packet
@@ -46,19 +44,21 @@ def named_log(text: str) -> Tuple[str, str]:
     return name, path
 
 
-def add_arguments(parser: argparse.ArgumentParser) -> None:
+def add_arguments(parser: argparse._ActionsContainer) -> None:
     """Adds --measured, a list of names and files."""
     what = "a real sender's link log of Mahimahi or Pantheon, whose figures come beside (again for another one)"
     parser.add_argument("--measured", type=named_log, action="append", default=[], metavar="[NAME=]LOG", help=what)
 
 
-def read(logs: Sequence[Tuple[str, str]], scenario: Scenario, windows: Mapping[str, Window]) -> List[RealSender]:
+def read(
+    logs: Sequence[Tuple[str, str]], recorded: Mapping[str, Sequence[int]], windows: Mapping[str, Window]
+) -> List[RealSender]:
     """What the senders of logs had, up to the end of the measured span of their trace. A log belongs to the trace whose
-    chances it has, or to the only trace of the comparison. What is no log is a CcpError."""
+    chances it has, or to the only trace of the comparison; `recorded` are their times. What is no log is a CcpError."""
     made = []
     for name, path in logs:
         log = read_log(path)
-        trace = trace_of(times_of(log), scenario)
+        trace = trace_of(times_of(log), recorded)
         window = windows[trace] if trace else Window()
         until_s = None if window.until_us is None else window.until_us / 1e6
         simulated_s = None if until_s is None else until_s - window.begin_us / 1e6
@@ -66,15 +66,14 @@ def read(logs: Sequence[Tuple[str, str]], scenario: Scenario, windows: Mapping[s
     return made
 
 
-def trace_of(times: Sequence[int], scenario: Scenario) -> str:
-    """The trace that a link with chances at these times followed, or the only one of the scenario; "" where neither
-    is known."""
-    for name, text in scenario["traces"].items():
-        known = trace_times(text, name)
+def trace_of(times: Sequence[int], recorded: Mapping[str, Sequence[int]]) -> str:
+    """The trace that a link with chances at these times followed, or the only one that there is; "" where neither is
+    known."""
+    for name, known in recorded.items():
         laps = len(times) // len(known) + 1 if times else 0
         if laps and list(times) == [lap * known[-1] + time for lap in range(laps) for time in known][: len(times)]:
-            return str(name)
-    return str(next(iter(scenario["traces"]))) if len(scenario["traces"]) == 1 else ""
+            return name
+    return next(iter(recorded)) if len(recorded) == 1 else ""
 
 
 def rows_of(senders: Sequence[RealSender], by: Sequence[str]) -> List[Row]:

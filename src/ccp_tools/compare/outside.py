@@ -10,7 +10,7 @@ from typing import Any, Dict, Mapping, Sequence
 
 from .. import program
 from ..errors import CcpError
-from ..files import read_bytes
+from ..files import name_of, read_bytes
 from ..senders import Sender
 
 # the modes that print of a recording what others print of a scenario
@@ -31,16 +31,22 @@ class Recording:
         return hashlib.sha256(self.data).hexdigest()
 
 
-def check(senders: Sequence[Sender], path: Path) -> None:
-    """Refuses a sender whose agent outside isn't one, and any where the program has no mode for them."""
+def check(senders: Sequence[Sender], path: Path, is_loaded: bool = True) -> None:
+    """Refuses a sender whose agent outside isn't one, and any where the program has no mode for them. Where the agents
+    aren't loaded, their files are read and nothing of them runs."""
     outside = [one for one in senders if one.file]
     for one in outside:
         try:
-            programs_of(str(one.file))
+            if is_loaded:
+                programs_of(str(one.file))
+            else:
+                read_bytes(str(one.file))
         except CcpError as error:
             raise CcpError("the sender %s: %s" % (one.label, error)) from None
     if outside and not program.knows_mode("drive", path):
-        raise CcpError("the sender %s is an agent outside, and %s has no mode drive" % (outside[0].label, path))
+        raise CcpError(
+            "the sender %s is an agent outside, and %s has no mode drive" % (outside[0].label, name_of(path))
+        )
 
 
 def programs_of(file: str) -> Dict[str, str]:

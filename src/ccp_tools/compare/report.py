@@ -10,23 +10,26 @@ import multiprocessing
 import platform
 import signal
 import subprocess
-from dataclasses import dataclass
-from functools import partial
+from dataclasses import dataclass, field
+from functools import cached_property, partial
 from pathlib import Path
 from typing import Any, Callable, Dict, List, Mapping, Sequence, Tuple
 
 import matplotlib
+import numpy as np
 import pandas as pd
 from matplotlib.figure import Figure
 
-from .. import metrics, plots, program, slow_start
+from .. import cautions, metrics, plots, program
+from ..cautions import Caution
 from ..interrupts import deferred_interrupts, without_interrupts
 from ..metrics import SHOWN, Window, counted
 from ..plots import Look
 from ..scenario_files import Scenario
 from ..senders import resolved
-from ..traces import Trace, gap_warning, gaps_of, trace_times
+from ..traces import gap_warning, gaps_of
 from . import shared
+from .cases import Comparison
 from .outside import file_sha256, programs_of
 from .runs import Results, joined, shown_cases
 
@@ -212,28 +215,45 @@ OVER_TIME = (
 
 @dataclass(frozen=True)
 class Row:
-    """A row of the table: what it is of, its figures with half of their intervals, and why its figures are doubtful."""
+    """A row of the table: what it is of, its figures with half of their intervals, and why its figures are doubtful.
+    `cases` are the names of its cases, and `by_seed` has the figures of each seed where the row is a mean over them."""
 
     by: Dict[str, Any]
     values: Dict[str, Tuple[float | None, float | None]]
     doubts: str
+    cases: Tuple[str, ...] = ()
+    by_seed: Dict[Any, Dict[str, float | None]] = field(default_factory=dict)
+
+    @property
+    def settings(self) -> Dict[str, Any]:
+        """What it is of, but for the sender."""
+        return {name: value for name, value in self.by.items() if name != "sender"}
 
 
 def rows_of(frame: pd.DataFrame, by: Sequence[str], groups: pd.DataFrame | None) -> List[Row]:
     """The rows of the table: one a case, or over seeds one a group."""
+    cases = metrics.rows_of(frame)
     if groups is None:
         return [
-            Row(named(row, by), {name: (row[name], None) for name in TABLE}, row["doubts"] or "")
-            for row in metrics.rows_of(frame)
+            Row(named(row, by), {name: (row[name], None) for name in TABLE}, row["doubts"] or "", (row["case"],))
+            for row in cases
         ]
-    key = [frame[name].astype(str) for name in by]
-    doubts = frame["doubts"].groupby(key, sort=False).agg(lambda some: "; ".join(dict.fromkeys(filter(None, some))))
+    of_groups: Dict[Tuple[str, ...], List[Dict[str, Any]]] = {}
+    for row in cases:
+        of_groups.setdefault(place_in(row, by), []).append(row)
     made = []
     for row in metrics.rows_of(groups):
-        place = tuple(str(row[name]) if row[name] is not None else str(frame[name].iloc[0]) for name in by)
+        some = of_groups[place_in(row, by)]
         values = {name: (row[name + "_mean"], row[name + "_ci95"]) for name in TABLE}
-        made.append(Row(named(row, by), values, doubts.get(place, "")))
+        doubts = "; ".join(dict.fromkeys(one["doubts"] for one in some if one["doubts"]))
+        by_seed = {one["seed"]: {name: one[name] for name in TABLE} for one in some}
+        made.append(Row(named(row, by), values, doubts, tuple(one["case"] for one in some), by_seed))
     return made
+
+
+def place_in(row: Mapping[str, Any], by: Sequence[str]) -> Tuple[str, ...]:
+    """The values of a row in the columns `by`, as texts."""
+    return tuple(str(row[name]) for name in by)
 
 
 def named(row: Mapping[str, Any], by: Sequence[str]) -> Dict[str, Any]:
@@ -246,9 +266,7 @@ def text_of(name: str, value: Tuple[float | None, float | None]) -> str:
     mean, half = value
     if mean is None:
         return "none"
-    shown = SHOWN[name]
-    text = "%.*f" % (shown.decimals, mean * shown.factor)
-    return text if half is None else "%s ±%.*f" % (text, shown.decimals, half * shown.factor)
+    return SHOWN[name].text(mean, half)
 
 
 def summary(rows: Sequence[Row], by: Sequence[str]) -> str:
@@ -269,34 +287,60 @@ def summary(rows: Sequence[Row], by: Sequence[str]) -> str:
     return "\n".join(made) + "\n"
 
 
-def marks_of(frame: pd.DataFrame) -> Tuple[List[str], List[float]]:
-    """What the figures are of, and which share of the losses is slow start's, over seeds in the mean."""
-    place = ["%s on %s" % pair for pair in zip(frame["sender"], frame["trace"])]
-    means = frame[slow_start.FIGURE].groupby(place, sort=False).mean()
-    return list(means.index), list(means)
-
-
 def place_of(row: Row) -> str:
     """What a row is of, in words: `bbr on lte, queue 20`."""
     rest = [plots.said_of(name, value) for name, value in row.by.items() if name not in ("trace", "sender")]
     return ", ".join(["%s on %s" % (row.by["sender"], row.by["trace"]), *rest])
 
 
-def best_of(rows: Sequence[Row], row: Row, name: str) -> bool:
-    """Whether a figure is the best of its trace and settings, as it is shown; one of a doubtful row never is."""
-    shown = SHOWN[name]
+def best_of(rows: Sequence[Row], row: Row, name: str, found: Sequence[Caution] = ()) -> bool:
+    """Whether a figure is the best of its trace and settings, as it is shown. None is where a caution is about this
+    figure of one of them, one of a doubtful row never is, and over seeds one is that is apart from each other."""
     if row.doubts or name == "span_s":
         return False
+    peers = [one for one in rows if one.settings == row.settings]
+    if any(one.covers(peer.cases, name) for one in found for peer in peers):
+        return False
+    group = [one for one in peers if not one.doubts]
+    if any(len(one.by_seed) > 1 for one in group):
+        others = [one for one in group if one is not row and one.values[name][0] is not None]
+        return bool(others) and all(is_better(row, one, name) and are_apart(row, one, name) for one in others)
+    return is_first(group, row, name)
+
+
+def is_first(group: Sequence[Row], row: Row, name: str) -> bool:
+    """Whether a figure is the best of a group as it is shown, where not all are equal."""
+    shown = SHOWN[name]
 
     def rounded(one: Row) -> float | None:
         mean = one.values[name][0]
-        return None if mean is None else round(mean * shown.factor, shown.decimals)
+        return None if mean is None else float(shown.text(mean))
 
-    rest = {key: value for key, value in row.by.items() if key != "sender"}
-    group = [one for one in rows if not one.doubts and all(one.by[key] == value for key, value in rest.items())]
     known = [value for value in map(rounded, group) if value is not None]
     mine = rounded(row)
     return mine is not None and min(known) < max(known) and mine == (max(known) if shown.is_more else min(known))
+
+
+def is_better(row: Row, other: Row, name: str) -> bool:
+    """Whether the mean of a row is better than that of another."""
+    mine, its = row.values[name][0], other.values[name][0]
+    return mine is not None and its is not None and (mine > its if SHOWN[name].is_more else mine < its)
+
+
+def are_apart(row: Row, other: Row, name: str) -> bool:
+    """Whether two means over seeds differ: their 95 % intervals don't meet, or the differences of equal seeds, which
+    lose equal packets, aren't 0 by Student's t for pairs at 5 %."""
+    (mean, half), (its_mean, its_half) = row.values[name], other.values[name]
+    if mean is None or its_mean is None:
+        return False
+    if half is not None and its_half is not None and abs(mean - its_mean) > half + its_half:
+        return True
+    pairs = [(row.by_seed[seed][name], other.by_seed[seed][name]) for seed in row.by_seed if seed in other.by_seed]
+    differences = np.array([a - b for a, b in pairs if a is not None and b is not None])
+    if len(differences) < 2:
+        return False
+    error = differences.std(ddof=1) / len(differences) ** 0.5
+    return bool(abs(differences.mean()) > metrics.quantile_of_t(np.array([len(differences) - 1]))[0] * error)
 
 
 def overall_rows(frame: pd.DataFrame) -> List[Dict[str, Any]]:
@@ -328,6 +372,7 @@ class Page:
     """What the report shows."""
 
     arguments: argparse.Namespace
+    grid: Comparison
     scenario: Scenario
     frame: pd.DataFrame
     by: List[str]
@@ -345,10 +390,17 @@ class Page:
         """The rows of the table: the simulated senders, then the real ones."""
         return [*rows_of(self.frame, self.by, self.groups), *self.real.rows]
 
+    @cached_property
+    def cautions(self) -> List[Caution]:
+        """Which figures can't be trusted as they stand."""
+        rows = metrics.rows_of(self.frame)
+        return cautions.found(self.scenario, rows, self.windows, self.grid.recorded, bool(self.sharings))
+
     def summary(self) -> str:
-        """The table as text, with a note on the losses of slow start."""
-        notes = slow_start.note_of(*marks_of(self.frame))
-        return summary(self.rows, self.by) + "".join("lost%%: %s\n" % text for text in notes)
+        """The table as text, with what it has to be read with."""
+        parts = self.parts_measured() if self.grid.shortened else []
+        lines = [*parts, *("caution: " + one.line() for one in self.cautions)]
+        return summary(self.rows, self.by) + "".join("%s\n" % text for text in lines)
 
     def html(self, options: str) -> str:
         """The report, one file that needs no other."""
@@ -367,6 +419,7 @@ class Page:
             % (senders, counted(traces, "trace"), counted(cases, "case")),
             identity=program.identity(self.path),
             warnings=self.warnings(rows),
+            cautions=self.cautions,
             conditions=self.conditions(),
             heads=[*self.by, *(SHOWN[name].label for name in TABLE)],
             rows=[self.cells(rows, row) for row in rows],
@@ -393,8 +446,7 @@ class Page:
 
     def warnings(self, rows: Sequence[Row]) -> List[str]:
         """What a reader has to know before the figures."""
-        found = ["%s: %s" % (place_of(row), row.doubts) for row in rows if row.doubts]
-        found += slow_start.note_of(*marks_of(self.frame))
+        found = [*self.parts_measured(), *("%s: %s" % (place_of(row), row.doubts) for row in rows if row.doubts)]
         found += [*self.remarks, *(text for one in self.sharings for text in one.doubts)]
         alone = [one.label for one in self.arguments.senders if one.file]
         if self.arguments.shared and alone:
@@ -403,6 +455,20 @@ class Page:
             )
         if metrics.spans_differ(self.frame):
             found.append("Senders are measured over different spans, so their figures aren't comparable as they stand.")
+        return found
+
+    def parts_measured(self) -> List[str]:
+        """How much of each recording was measured that wasn't to its end, with the reason where a limit is one."""
+        found = []
+        for name, times in self.grid.recorded.items():
+            window, length = self.windows[name], times[-1] / 1e3
+            if window.until_us is not None and window.until_us / 1e6 < length:
+                span = (window.until_us - window.begin_us) / 1e6
+                values = (name, *rounded_parts(span, length))
+                reason = self.grid.shortened.get(name)
+                found.append(
+                    "%s: %s of %s s of the recording were measured%s" % (*values, ": " + reason if reason else "")
+                )
         return found
 
     def conditions(self) -> List[Tuple[str, str]]:
@@ -426,8 +492,14 @@ class Page:
             whole = window.until_us / 1e6 if window.until_us is not None else None
             length = "%g" % whole if whole is not None else "%.3g to %.3g" % (measured.min(), measured.max())
             spans.append("%s: %s%s" % (name, begin, length))
-        gaps = [("gaps", text) for text in gap_warnings(self.scenario)]
-        return [("measured [s of virtual time]", ", ".join(spans)), *made, *gaps]
+        gaps = [("gaps", text) for text in gap_warnings(self.grid.recorded)]
+        return [("measured [s of virtual time]", ", ".join(spans)), *made, *self.links(), *gaps]
+
+    def links(self) -> List[Tuple[str, str]]:
+        """The conditions of each link that has some of its own."""
+        words = self.arguments.link
+        names = list(self.grid.own)[len(self.grid.own) - len(words) :]
+        return [("link", "%s: %s" % (name, one.text)) for name, one in zip(names, words)]
 
     def queues(self) -> str:
         """The queues in packets, after how they were asked for where that was in other units."""
@@ -437,28 +509,28 @@ class Page:
     def cells(self, rows: Sequence[Row], row: Row) -> Dict[str, Any]:
         """A row as the template shows it: each figure as text and number, and whether it is the best of its rows."""
         cells = [
-            {"text": text_of(name, row.values[name]), "value": row.values[name][0], "best": best_of(rows, row, name)}
+            {
+                "text": text_of(name, row.values[name]),
+                "value": row.values[name][0],
+                "best": best_of(rows, row, name, self.cautions),
+            }
             for name in TABLE
         ]
         return {"names": list(row.by.items()), "cells": cells, "doubts": row.doubts}
 
     def traces(self) -> List[Dict[str, Any]]:
-        """Each trace of the comparison: its mean rate in Mbit/s with packets of 1,500 bytes, its length in seconds, its
-        longest gap in milliseconds, and its SHA-256."""
-        made = []
-        for name, text in self.scenario["traces"].items():
-            trace = Trace(trace_times(text, name))
-            rate = 12 * len(trace.times) * (self.arguments.aggregate or 1) / trace.times[-1]
-            made.append(
-                {
-                    "name": name,
-                    "rate": rate,
-                    "length": trace.times[-1] / 1000,
-                    "gap": max(gaps_of(trace.times)),
-                    "sha256": sha256(text),
-                }
-            )
-        return made
+        """Each trace of the comparison, as it was recorded: its mean rate in Mbit/s with packets of 1,500 bytes, its
+        length in seconds, its longest gap in milliseconds, and the SHA-256 of its text in the scenario."""
+        return [
+            {
+                "name": name,
+                "rate": 12 * len(times) / times[-1],
+                "length": times[-1] / 1000,
+                "gap": max(gaps_of(times)),
+                "sha256": sha256(self.scenario["traces"][name]),
+            }
+            for name, times in self.grid.recorded.items()
+        ]
 
     def senders(self) -> List[Dict[str, Any]]:
         """The senders, with the texts of their programs."""
@@ -480,10 +552,16 @@ class Page:
         return made
 
 
-def gap_warnings(scenario: Scenario) -> List[str]:
-    """What figures on the traces of a scenario lack that have long gaps."""
-    found = [gap_warning(name, trace_times(text, name)) for name, text in scenario["traces"].items()]
-    return [text for text in found if text]
+def gap_warnings(recorded: Mapping[str, Sequence[int]]) -> List[str]:
+    """What figures on recordings lack that have long gaps, by the times of each as it was recorded: with --aggregate
+    the chances of a packet are further apart, which is no gap of the link."""
+    return [text for text in (gap_warning(name, times) for name, times in recorded.items()) if text]
+
+
+def rounded_parts(part: float, whole: float) -> Tuple[str, str]:
+    """A part and a whole of seconds as a sentence has them, with a decimal at least, so that both aren't equal."""
+    decimals = next((count for count in (1, 2) if round(part, count) < round(whole, count)), 3)
+    return "%.*f" % (decimals, part), "%g" % round(whole, 3)
 
 
 def how_of(one: Any, frame: pd.DataFrame) -> str:

@@ -7,12 +7,13 @@ import sys
 import time
 from dataclasses import dataclass, field
 from pathlib import Path
-from typing import Any, Dict, Iterable, Iterator, List, Mapping, TextIO
+from typing import Any, Dict, Iterable, Iterator, List, Mapping
 
 import pandas as pd
 
 from .. import metrics, program, texts
 from ..errors import CcpError
+from ..files import append_text, write_text
 from ..frames import AckFrame, Timeline, acks_in, timeline_of
 from ..metrics import Window
 from ..scenario_files import scenario_text
@@ -67,23 +68,21 @@ class Runner:
         meant to change their program, and `shown` the numbers of the cases that are plotted."""
         parts, wanted = parts_of(dict(scenario)), set(shown)
         found, results = [], Results(pd.DataFrame())
-        with (self.folder / "timeline.txt").open("w") as timeline_file, (self.folder / "acks.txt").open(
-            "w"
-        ) as acks_file:
-            for number, (first, part) in enumerate(parts, 1):
-                self.name = "part %d of %d: " % (number, len(parts)) if len(parts) > 1 else ""
-                self.begin(part, results)
-                table = self.table(part)
-                timeline = self.timeline(part, first, timeline_file)
-                text = self.printed("acks", part, first, acks_file)
-                self.progress.say(self.name + "figures")
-                flows = kept(acks_in(text), first, wanted, results.acks)
-                found.append(
-                    metrics.figures(part, table=table, timeline=timeline, acks=flows, window=windows, answered=answered)
-                )
-                results.timelines.append(timeline)
+        for number, (first, part) in enumerate(parts, 1):
+            self.name = "part %d of %d: " % (number, len(parts)) if len(parts) > 1 else ""
+            self.begin(part, results)
+            table = self.table(part)
+            timeline = self.timeline(part, first)
+            text = self.output("acks", part)
+            append_text(self.folder / "acks.txt", renumbered(text, first))
+            self.progress.say(self.name + "figures")
+            flows = kept(acks_in(text), first, wanted, results.acks)
+            found.append(
+                metrics.figures(part, table=table, timeline=timeline, acks=flows, window=windows, answered=answered)
+            )
+            results.timelines.append(timeline)
         results.figures = pd.concat(found, ignore_index=True)
-        (self.folder / "table.txt").write_text(table_text(self.rows))
+        write_text(self.folder / "table.txt", table_text(self.rows))
         return results
 
     def begin(self, part: Mapping[str, Any], results: Results) -> None:
@@ -111,13 +110,13 @@ class Runner:
         self.rows += made.rows
         return made
 
-    def timeline(self, part: Mapping[str, Any], first: int, file: TextIO) -> Timeline:
+    def timeline(self, part: Mapping[str, Any], first: int) -> Timeline:
         """The timeline of a part, which `audit` has to say yes to. That of an agent outside isn't judged: it is worked
         out from its recording."""
         text = self.output("timeline", part)
         if self.recording is None:
             self.audit(text, part, first)
-        file.write(renumbered(text, first))
+        append_text(self.folder / "timeline.txt", renumbered(text, first))
         made = timeline_of(texts.flows_in(text))
         for frame in (made.reports, made.faults, made.epochs, made.ends):
             frame["flow"] += first
@@ -134,12 +133,6 @@ class Runner:
         said = program.run("audit", given, program=self.program).output.strip()
         if said != "yes":
             raise CcpError("audit: the timeline isn't one of the scenario: %s, counted from case %d" % (said, first))
-
-    def printed(self, mode: str, part: Mapping[str, Any], first: int, file: TextIO) -> str:
-        """What a mode prints of a part; the file gets it with the numbers of all cases."""
-        text = self.output(mode, part)
-        file.write(renumbered(text, first))
-        return text
 
 
 def size_of(part: Mapping[str, Any]) -> str:

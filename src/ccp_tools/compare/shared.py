@@ -17,11 +17,12 @@ import pandas as pd
 from matplotlib.figure import Figure
 
 from .. import frames, metrics, plots, program, shares, texts
+from ..files import write_text
 from ..metrics import Link, Window
 from ..plots import Look
 from ..scenario_files import Scenario, write_scenario
 from ..tables import LIMITS
-from .cases import LEAST_US, outside_of
+from .cases import LEAST_US, outside_of, rounds_of
 from .runs import Progress, shown_cases
 
 # how often the bottleneck is looked at
@@ -59,8 +60,7 @@ class Sharing:
 def scenario_of(scenario: Scenario, trace: str, numbers: Sequence[int], span_us: int) -> Scenario:
     """The scenario of `shared` in which the senders of these cases share a trace for a span."""
     cases = [scenario["cases"][number] for number in numbers]
-    quantum_us = 1000 * max(1, -(-span_us // (1000 * LIMITS["rounds"])))
-    rounds = -(-span_us // quantum_us)
+    quantum_us, rounds = rounds_of(span_us)
     chances = Link(scenario).chances(trace, rounds * quantum_us)
     acks = min(chances, LIMITS["acks"], LIMITS["acks_in_all"] // len(cases))
     shared = {"trace": trace, "queue": cases[0]["queue"], "quantum_us": quantum_us, "rounds": rounds}
@@ -165,7 +165,7 @@ def run_one(one: Scenario, kept: Path, path: Path) -> Sharing:
     trace, seed = one["shared"]["trace"], one["cases"][0].get("seed")
     write_scenario(one, kept.with_name(kept.name + ".json"))
     printed = program.run("shared", one, program=path).output
-    kept.with_name(kept.name + ".txt").write_text(printed)
+    write_text(kept.with_name(kept.name + ".txt"), printed)
     table, series = texts.read_table(printed), series_of(one, path)
     since = converged(series.times, series.acked)
     rows = [{**row, "seed": seed, "converged_s": since} for row in metrics.rows_of(metrics.figures(one, table=table))]
@@ -253,9 +253,7 @@ def cell_of(group: Mapping[str, Any], name: str) -> str:
     shown, mean, half = FIGURES[name], group[name + "_mean"], group[name + "_ci95"]
     if pd.isna(mean):
         return "none"
-    text = "%.*f" % (shown.decimals, mean * shown.factor)
-    if not pd.isna(half):
-        text += " ±%.*f" % (shown.decimals, half * shown.factor)
+    text = shown.text(mean, None if pd.isna(half) else half)
     count, known = int(group["n"]), int(group[name + "_n"])
     return text if count == known else "%s in %d of %d" % (text, known, count)
 

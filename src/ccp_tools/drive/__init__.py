@@ -22,7 +22,7 @@ from importlib import import_module
 from typing import TYPE_CHECKING, Any
 
 from .agents import Agent, Driven, load_agent, run, run_file
-from .errors import BadAnswer, Ended, FrameRefused, NotAsked, Silent
+from .errors import AgentFailed, BadAnswer, Ended, FrameRefused, NoField, NotAsked, Silent
 from .messages import Answer, Change, Create, Fault, Refused, Report, Event, Update
 from .session import Session, with_programs
 
@@ -31,6 +31,7 @@ if TYPE_CHECKING:
 
 __all__ = [
     "Agent",
+    "AgentFailed",
     "Answer",
     "BadAnswer",
     "Box",
@@ -41,6 +42,7 @@ __all__ = [
     "Env",
     "Fault",
     "FrameRefused",
+    "NoField",
     "NotAsked",
     "Refused",
     "Report",

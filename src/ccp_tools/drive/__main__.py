@@ -10,15 +10,16 @@ arguments."""
 from __future__ import annotations
 
 import argparse
+import os
 import sys
 from typing import Sequence
 
-from ..arguments import Parser, add_ccp
-from ..cli import leave_pipe
-from ..errors import CcpError
-from ..files import read_bytes
-from ..interrupts import Ended, caught_signals
+from ..arguments import Parser, add_ccp, shown
+from ..cli import run_guarded
+from ..errors import CcpError, UsageError
+from ..files import name_of, read_bytes
 from .agents import run_file
+from .pipes import LONGEST_TIMEOUT
 
 TEXTS = {"table": "drive-table", "timeline": "drive-timeline", "acks": "drive-acks"}
 
@@ -30,34 +31,52 @@ def parser() -> argparse.ArgumentParser:
     made.add_argument("scenario", metavar="SCENARIO", help="the scenario's file; - is standard input")
     made.add_argument("--record", metavar="FILE", help="the file that gets the recording")
     made.add_argument("--print", dest="shown", choices=TEXTS, default="table", help="the text to print (table)")
-    made.add_argument("--timeout", type=float, metavar="S", help="the seconds for which the program may be silent")
+    made.add_argument("--timeout", type=seconds, metavar="S", help="the seconds for which the program may be silent")
     add_ccp(made)
     return made
 
 
+def seconds(text: str) -> float:
+    """Seconds above 0, as a timeout has them."""
+    try:
+        value = float(text)
+    except ValueError:
+        value = 0
+    if not 0 < value <= LONGEST_TIMEOUT:
+        what = "%s isn't a number of seconds above 0 and at most %d" % (shown(text), LONGEST_TIMEOUT)
+        raise argparse.ArgumentTypeError(what)
+    return value
+
+
 def main(words: Sequence[str]) -> int:
     """Runs the command, and returns its exit status."""
-    try:
-        with caught_signals():
-            return run(parser().parse_args(words))
-    except CcpError as error:
-        print("drive: %s" % " ".join(str(error).split("\n")), file=sys.stderr)
-        return error.status
-    except BrokenPipeError:
-        return leave_pipe()
-    except Ended as ended:
-        return ended.status
-    except KeyboardInterrupt:
-        return 130
+    return run_guarded("drive", lambda: run(words))
 
 
-def run(asked: argparse.Namespace) -> int:
+def run(words: Sequence[str]) -> int:
     """Drives the flows, and prints the text that is asked for."""
+    try:
+        asked = parser().parse_args(words)
+    except SystemExit as done:  # --help
+        return int(done.code or 0)
+    for given in (asked.agent, asked.scenario):
+        if asked.record and is_same_file(asked.record, given):
+            raise UsageError("--record %s: the recording would overwrite what the run reads" % name_of(asked.record))
     options = {"program": asked.ccp, "record": asked.record, "timeout": asked.timeout}
+    output = sys.stdout
     made = run_file(asked.agent, read_bytes(asked.scenario), **options)
-    sys.stdout.write(made.text(TEXTS[asked.shown]))
-    sys.stdout.flush()
+    # an agent may have closed the output, or put something else in its place
+    if output.closed:
+        sys.stdout = open(os.devnull, "w", encoding="utf-8")
+        raise CcpError("the output can't be written: the agent has closed it")
+    sys.stdout = output
+    output.write(made.text(TEXTS[asked.shown]))
     return 0
+
+
+def is_same_file(one: str, other: str) -> bool:
+    """Whether two paths are of one regular file."""
+    return os.path.isfile(one) and os.path.isfile(other) and os.path.samefile(one, other)
 
 
 if __name__ == "__main__":

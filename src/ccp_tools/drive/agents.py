@@ -6,22 +6,26 @@ import importlib.util
 import inspect
 import sys
 import traceback
+from contextlib import contextmanager
 from dataclasses import dataclass
 from pathlib import Path
-from typing import TYPE_CHECKING, Any, Callable, Mapping, Optional, Union
+from typing import TYPE_CHECKING, Any, Callable, Iterator, Mapping, Optional, Union
 
 from .. import program as programs
-from ..errors import CcpError
-from ..files import read_bytes
-from ..scenario_files import scenario_of
-from .errors import BadAnswer
-from .messages import Answer, Change, Create, Fault, Report, Event
-from .session import GivenScenario, Session, scenario_bytes, with_programs
+from ..errors import CcpError, cut
+from ..files import name_of, read_bytes, write_bytes
+from ..scenario_files import GivenScenario, given_scenario, scenario_of
+from .errors import AgentFailed, BadAnswer, FrameRefused
+from .messages import Answer, Change, Create, Event, Fault, Report, Update, described
+from .session import Session, with_programs
 
 if TYPE_CHECKING:
     import pandas as pd
 
     from ..frames import Timeline
+
+# the folder of this package, whose lines are none of the agent's
+OWN = Path(__file__).parent
 
 
 class Agent:
@@ -87,8 +91,8 @@ class Driven:
         return frames.read_acks(self.text("drive-acks"))
 
     def save(self, path: Union[str, Path]) -> None:
-        """Writes the recording to a file."""
-        Path(path).write_bytes(self.recording)
+        """Writes the recording to a file. One that can't be written is a CcpError."""
+        write_bytes(path, self.recording)
 
 
 def run(
@@ -101,55 +105,117 @@ def run(
     on_event: Callable[[Event], None] = lambda event: None,
 ) -> Driven:
     """Drives the flows of a scenario by an agent, to their ends. `on_event` is called with each event, and the rest is
-    as in Session. Errors: those of Session, and what the agent raises."""
+    as in Session. Errors: those of Session, and what the agent raises. A BadAnswer and a FrameRefused name the line
+    that made the answer."""
     text = with_programs_of(agent, scenario)
     with Session(text, program=program, record=record, timeout=timeout) as session:
         for one in session:
             on_event(one)
             given = agent.answer(one)
-            if isinstance(one, Create) and not isinstance(given, Change):
-                raise BadAnswer("on_create gave %r: the first answer of a flow is a Change" % (given,))
-            session.answer(given)
+            try:
+                if isinstance(one, Create) and not isinstance(given, Change):
+                    raise BadAnswer("on_create gave %s: the first answer of a flow is a Change" % described(given))
+                session.answer(given)
+            except (BadAnswer, FrameRefused) as error:
+                error.args = ("%s: %s" % (answer_place(agent, one, given), error),)
+                raise
         recording = session.recording
     return Driven(recording, program)
 
 
+def answer_place(agent: Agent, event: Event, answer: Any) -> str:
+    """Where an answer was made, as FILE:LINE: by the line that made it, or else by the agent's method."""
+    if isinstance(answer, (Update, Change)) and Path(answer.made_at[0]).parent != OWN:
+        return "%s:%d" % (name_of(answer.made_at[0]), answer.made_at[1])
+    name = "on_" + type(event).__name__.lower()
+    code = getattr(getattr(agent, name), "__code__", None)
+    return "%s:%d" % (name_of(code.co_filename), code.co_firstlineno) if code else name
+
+
 def with_programs_of(agent: Agent, scenario: GivenScenario) -> GivenScenario:
     """A scenario with the programs of an agent; without any it stays as it is."""
-    if not agent.programs:
+    own = checked_programs(agent)
+    if not own:
         return scenario
-    if isinstance(scenario, Mapping):
-        return with_programs(scenario, agent.programs)
-    place = "scenario" if isinstance(scenario, bytes) else str(scenario)
-    return with_programs(
-        scenario_of(scenario_bytes(scenario).decode("utf-8", "surrogateescape"), place), agent.programs
-    )
+    given = given_scenario(scenario)
+    if isinstance(given, bytes):
+        is_path = isinstance(scenario, Path) or isinstance(scenario, str) and not scenario.lstrip().startswith("{")
+        given = scenario_of(given.decode("utf-8", "surrogateescape"), name_of(str(scenario)) if is_path else "scenario")
+    return with_programs(given, own)
+
+
+def checked_programs(agent: Agent) -> Mapping[str, str]:
+    """The programs of an agent. What is no dict of texts is a BadAnswer."""
+    own = agent.programs
+    if not isinstance(own, Mapping) or not all(isinstance(one, str) for item in own.items() for one in item):
+        raise BadAnswer("the agent's programs are %s: texts by their names are expected" % described(own))
+    return own
 
 
 # ---- agents in files
 
 
 def run_file(path: Union[str, Path], scenario: GivenScenario, **options: Any) -> Driven:
-    """A run of the agent of a Python file, as `run` has it. What the agent itself raises is a CcpError with its
-    place."""
+    """A run of the agent of a Python file, as `run` has it. What the agent itself raises is an AgentFailed."""
     agent = load_agent(path)
-    try:
+    with blamed(path):
         return run(agent, scenario, **options)
-    except CcpError:
+
+
+@contextmanager
+def blamed(path: Union[str, Path]) -> Iterator[None]:
+    """Has whatever the code of an agent's file raises inside be an AgentFailed, SystemExit too. Errors that don't come
+    from this code, and KeyboardInterrupt, pass."""
+    try:
+        yield
+    except KeyboardInterrupt:
         raise
-    except Exception as error:
-        place = traceback.extract_tb(error.__traceback__)[-1]
-        what = (place.filename, place.lineno, type(error).__name__, error)
-        raise CcpError("the agent failed: %s:%s: %s: %s" % what) from error
+    except BaseException as error:
+        place = failed_place(Path(path), error)
+        if isinstance(error, CcpError) and not place:
+            raise
+        raise AgentFailed("the agent failed: %s: %s" % (place or name_of(path), reason_of(error))) from error
+
+
+def failed_place(path: Path, error: BaseException) -> str:
+    """The innermost line of an agent's file, or of a file beside it, that an error went through, as FILE:LINE; an empty
+    text where there is none."""
+    folder = path.resolve().parent
+    places = [(one.filename, one.lineno) for one in traceback.extract_tb(error.__traceback__)]
+    if isinstance(error, SyntaxError) and error.filename:
+        places.append((error.filename, error.lineno))
+    # code without a file has a name in angle brackets
+    own = [place for place in places if place[0][:1] != "<" and Path(place[0]).resolve().parent == folder]
+    return "%s:%s" % (name_of(own[-1][0]), own[-1][1] or 1) if own else ""
+
+
+def reason_of(error: BaseException) -> str:
+    """An error as a message has it: its type, unless it is one of this package, and its text."""
+    try:
+        text = cut(error.msg if isinstance(error, SyntaxError) else str(error))
+    except Exception:
+        text = "its text can't be made"
+    if isinstance(error, CcpError):
+        return text
+    return ": ".join(part for part in (cut(type(error).__name__), text) if part)
 
 
 def load_agent(path: Union[str, Path]) -> Agent:
     """The agent of a Python file: its variable `agent`, else an object of the one class in it that is an Agent. What
     the file imports from its own folder is found. Errors: CcpError."""
-    module = module_of(Path(path))
+    with blamed(path):
+        agent = agent_of(module_of(Path(path)), name_of(path))
+        checked_programs(agent)
+    return agent
+
+
+def agent_of(module: Any, name: str) -> Agent:
+    """The agent of a module; `name` is its file's."""
     found = getattr(module, "agent", None)
     if found is not None:
-        return checked_agent(found, path)
+        if not isinstance(found, Agent):
+            raise CcpError("%s: its variable `agent` is no object of a class that is an Agent" % name)
+        return found
     classes = [
         one
         for one in vars(module).values()
@@ -157,33 +223,24 @@ def load_agent(path: Union[str, Path]) -> Agent:
     ]
     if len(classes) != 1:
         what = "no class" if not classes else "%d classes" % len(classes)
-        raise CcpError("%s: it has %s of the kind Agent; a variable `agent` says which object is meant" % (path, what))
+        raise CcpError("%s: it has %s of the kind Agent; a variable `agent` says which object is meant" % (name, what))
     return classes[0]()
-
-
-def checked_agent(found: Any, path: Union[str, Path]) -> Agent:
-    """The variable `agent` of a file."""
-    if not isinstance(found, Agent):
-        raise CcpError("%s: its variable `agent` is no object of a class that is an Agent" % path)
-    return found
 
 
 def module_of(path: Path) -> Any:
     """The module that a Python file makes."""
     read_bytes(path)
-    name = "agent_of_" + hashlib.sha256(str(path.resolve()).encode()).hexdigest()[:12]
+    name = "agent_of_" + hashlib.sha256(str(path.resolve()).encode("utf-8", "surrogateescape")).hexdigest()[:12]
     spec = importlib.util.spec_from_file_location(name, path)
     if spec is None or spec.loader is None:
-        raise CcpError("%s: a Python file is expected, whose name ends with .py" % path)
+        raise CcpError("%s: a Python file is expected, whose name ends with .py" % name_of(path))
     module = importlib.util.module_from_spec(spec)
     sys.modules[name] = module
-    sys.path.insert(0, str(path.resolve().parent))
+    folder = str(path.resolve().parent)
+    sys.path.insert(0, folder)
     try:
         spec.loader.exec_module(module)
-    except CcpError:
-        raise
-    except Exception as error:
-        raise CcpError("%s: %s: %s" % (path, type(error).__name__, error)) from error
     finally:
-        sys.path.remove(str(path.resolve().parent))
+        if folder in sys.path:
+            sys.path.remove(folder)
     return module

@@ -10,13 +10,22 @@ import numpy as np
 
 from ..errors import CcpError
 from .agents import Driven
-from .messages import MOST, Change, Create, Fault, Report, Event, Update
+from .errors import BadAnswer
+from .messages import MOST, Change, Create, Event, Fault, Report, Update, number_of, rounded
 from .session import GivenScenario, Session, scenario_bytes
 
 # what an observation may have beside the fields of the program
 SEEN = ("first", "end", "now", "cwnd", "rate")
 Reward = Callable[[Report, Optional[Report]], float]
 Info = Dict[str, Any]
+
+
+def bounds_of(name: str, low: float, high: float) -> Tuple[int, int]:
+    """The least and the greatest value that an action sends. Those of no range are a BadAnswer."""
+    made = number_of("the least " + name, low), number_of("the greatest " + name, high)
+    if made[0] > made[1]:
+        raise BadAnswer("the least %s is %d, above the greatest, %d" % (name, *made))
+    return made
 
 
 @dataclass(frozen=True)
@@ -57,8 +66,8 @@ class Env:
     `observe` are the numbers of an observation in their order: fields of the program by their names, `first`, `end`,
     `now` (microseconds), `cwnd` (bytes) and `rate` (bytes a second). A field that the program of a report doesn't have
     is 0. `act` are the numbers of an action in their order, each with its least and its greatest value: `cwnd`, `rate`,
-    or a control variable; an action is held between them and rounded down. `reward` gets the report that answers an
-    action, and the one before it or None.
+    or a control variable. An action is rounded as a value of an Update is, and held between them. `reward` gets the
+    report that answers an action, and the one before it or None.
 
     An episode is `truncated` where its case has no more acknowledgements: its last step has the observation of the last
     report and the reward 0, since nothing was reported of it. It never is `terminated`. After the last case `reset`
@@ -85,7 +94,7 @@ class Env:
         self._observe, self._act, self._reward = tuple(observe), tuple(act), reward
         self._program, self._timeout = program, timeout
         self._record = None if record is None else Path(record)
-        self._bounds = [(int(low), int(high)) for low, high in act.values()]
+        self._bounds = [bounds_of(name, *both) for name, both in act.items()]
         self._session: Optional[Session] = None
         self._create: Optional[Create] = None
         self._report: Optional[Report] = None
@@ -177,10 +186,12 @@ class Env:
 
     def _values(self, action: Sequence[float]) -> Dict[str, int]:
         """The values of an action, held between their bounds."""
-        if len(action) != len(self._act):
+        if not hasattr(action, "__len__") or len(action) != len(self._act):
             raise CcpError("an action has %d numbers: %s" % (len(self._act), ", ".join(self._act)))
-        held = [min(max(int(value), low), high) for value, (low, high) in zip(action, self._bounds)]
-        return dict(zip(self._act, held))
+        made = {}
+        for name, value, (low, high) in zip(self._act, action, self._bounds):
+            made[name] = min(max(rounded(name, value), low), high)
+        return made
 
     def _seen(self, report: Report) -> np.ndarray:
         """The observation of a report."""

@@ -10,7 +10,18 @@ WORDS_REFUSED = 2
 
 
 class BadAnswer(CcpError):
-    """An answer that can't be sent: a name that the scenario doesn't have, or a value that is no number of 64 bits."""
+    """An answer that can't be sent: a name that the scenario doesn't have, or a value that isn't from 0 to 2^64-1."""
+
+
+class NoField(CcpError, KeyError):
+    """A report doesn't have the field that is asked for: the program that made it declares others."""
+
+    # that of KeyError shows its text as Python writes a string
+    __str__ = Exception.__str__
+
+
+class AgentFailed(CcpError):
+    """The code of an agent's file raised something, `SystemExit` too: the text has its file, its line and what."""
 
 
 class NotAsked(CcpError):

@@ -1,14 +1,16 @@
 """The events of flows and the answers of agents as objects, and the frames that stand for them (docs/frames.md)."""
 from __future__ import annotations
 
+import math
 import operator
 import struct
+import sys
 from dataclasses import dataclass, field
 from functools import lru_cache
 from typing import Any, Dict, List, Optional, Sequence, Tuple, Union
 
-from ..errors import CcpError
-from .errors import BadAnswer
+from ..errors import CcpError, cut
+from .errors import BadAnswer, NoField
 from .names import Declared, Names
 
 CREATE, MEASURE, UPDATE, CHANGE, FAULT, REFUSED = 1, 2, 4, 5, 6, 8
@@ -47,7 +49,21 @@ class Report:
     fields: Dict[str, int]
 
     def __getitem__(self, name: str) -> int:
-        return self.fields[name]
+        try:
+            return self.fields[name]
+        except KeyError:
+            raise NoField("the report has no field %s: %s" % (cut(str(name)), self._listed())) from None
+
+    def __getattr__(self, name: str) -> Any:
+        # only names that a report doesn't have come here
+        text = "a report has no attribute %s: %s, as report[NAME]" % (cut(name), self._listed())
+        raise AttributeError(text)
+
+    def _listed(self) -> str:
+        """The program's fields, as a message lists them."""
+        # a report that is being copied has no members yet
+        fields = vars(self).get("fields")
+        return "its fields are " + ", ".join(fields) if fields else "its program declares no field"
 
     def get(self, name: str, default: int = 0) -> int:
         """The value of a field, or `default` where the program has none of this name."""
@@ -85,39 +101,49 @@ class Refused:
 Event = Union[Create, Report, Fault]
 
 
+def caller_place() -> Tuple[str, int]:
+    """The file and the line of the code that makes an answer."""
+    frame = sys._getframe(2)
+    return frame.f_code.co_filename, frame.f_lineno
+
+
 @dataclass(init=False)
 class Update:
     """An answer that sets the window in bytes, the rate in bytes a second, and control variables of the program that
-    runs; without values it is the answer "nothing"."""
+    runs; without values it is the answer "nothing". A value is from 0 to 2^64-1; one that isn't whole is rounded to the
+    nearest whole number, and a half to the even one."""
 
-    cwnd: Optional[int]
-    rate: Optional[int]
-    controls: Dict[str, int] = field(default_factory=dict)
+    cwnd: Optional[float]
+    rate: Optional[float]
+    controls: Dict[str, float] = field(default_factory=dict)
 
-    def __init__(self, /, *, cwnd: Optional[int] = None, rate: Optional[int] = None, **controls: int) -> None:
+    def __init__(self, /, *, cwnd: Optional[float] = None, rate: Optional[float] = None, **controls: float) -> None:
         self.cwnd, self.rate, self.controls = cwnd, rate, controls
+        self.made_at = caller_place()
 
 
 @dataclass(init=False)
 class Change:
     """An answer that starts a program, by its name or its number. The window in bytes and the rate in bytes a second
-    stay where they aren't given, and control variables that aren't given begin with their declared values."""
+    stay where they aren't given, and control variables that aren't given begin with their declared values. Values are
+    as in Update."""
 
     program: Union[str, int]
-    cwnd: Optional[int]
-    rate: Optional[int]
-    controls: Dict[str, int] = field(default_factory=dict)
+    cwnd: Optional[float]
+    rate: Optional[float]
+    controls: Dict[str, float] = field(default_factory=dict)
 
     def __init__(
         self,
         program: Union[str, int],
         /,
         *,
-        cwnd: Optional[int] = None,
-        rate: Optional[int] = None,
-        **controls: int,
+        cwnd: Optional[float] = None,
+        rate: Optional[float] = None,
+        **controls: float,
     ) -> None:
         self.program, self.cwnd, self.rate, self.controls = program, cwnd, rate, controls
+        self.made_at = caller_place()
 
 
 # an answer; None is "nothing"
@@ -130,14 +156,35 @@ Value = Tuple[int, int, int]
 
 
 def number_of(name: str, value: Any) -> int:
-    """A value as the number of 64 bits that it is, or a BadAnswer."""
-    try:
-        number = operator.index(value)
-    except TypeError:
-        raise BadAnswer("%s is %r: a whole number is expected" % (name, value)) from None
+    """A value as the number of 64 bits that is sent for it, or a BadAnswer."""
+    number = rounded(name, value)
     if not 0 <= number <= MOST:
-        raise BadAnswer("%s is %d: it is from 0 to 2^64-1" % (name, number))
+        raise BadAnswer("%s is %s: it is from 0 to 2^64-1" % (cut(name), described(value)))
     return number
+
+
+def rounded(name: str, value: Any) -> int:
+    """The whole number that is nearest to a value, and of two the even one. What isn't a finite number is a
+    BadAnswer."""
+    try:
+        return operator.index(value)
+    except TypeError:
+        pass
+    try:
+        real = float(value) if hasattr(value, "__float__") else math.nan
+    except (TypeError, ValueError, OverflowError):
+        real = math.nan
+    if not math.isfinite(real):
+        raise BadAnswer("%s is %s: a finite number is expected" % (cut(name), described(value)))
+    return round(real)
+
+
+def described(value: Any) -> str:
+    """A value of an agent as a message shows it."""
+    try:
+        return cut(repr(value), 80)
+    except Exception:
+        return "of the type %s" % cut(type(value).__name__)
 
 
 def values_of(answer: Union[Update, Change], program: Optional[Declared]) -> List[Value]:

@@ -2,9 +2,11 @@
 from __future__ import annotations
 
 import json
+import operator
 from dataclasses import dataclass
 from typing import Any, Dict, List, Mapping, Tuple
 
+from ..errors import cut
 from ..reference.flow import Programs
 from ..reference.syntax import Program
 from ..tables import BUILT_INS
@@ -13,7 +15,9 @@ from .errors import BadAnswer
 
 @dataclass(frozen=True)
 class Declared:
-    """What a program declares: `fields` and `controls` are the names in order of declaration. `text` is its source."""
+    """What a program declares: `fields` and `controls` are the names in order of declaration. `text` is its source, and
+    `page_name` its name as pages and messages have it: a built-in program is `reno_ss` in texts, and `reno.ss` there.
+    """
 
     number: int
     name: str
@@ -21,13 +25,18 @@ class Declared:
     fields: Tuple[str, ...]
     controls: Tuple[str, ...]
 
+    @property
+    def page_name(self) -> str:
+        return self.name.replace("_", ".", 1) if self.number < len(BUILT_INS) else self.name
+
     def control(self, name: str) -> int:
         """The number of a control variable. A name that the program doesn't declare is a BadAnswer."""
         try:
             return self.controls.index(name)
         except ValueError:
             has = "it has " + ", ".join(self.controls) if self.controls else "it has none"
-            raise BadAnswer("the program %s has no control variable %s: %s" % (self.name, name, has)) from None
+            text = "the program %s has no control variable %s: %s" % (self.page_name, cut(name), has)
+            raise BadAnswer(text) from None
 
 
 class Names:
@@ -38,7 +47,7 @@ class Names:
         self.cases: List[Any] = cases if isinstance(cases, list) else []
         self.programs = programs_of(scenario.get("programs", {}))
         # a program of the scenario goes before a built-in one of its name; `reno.ss` is `reno_ss` as pages write it
-        self.numbers: Dict[str, int] = {name.replace("_", ".", 1): at for at, name in enumerate(BUILT_INS)}
+        self.numbers: Dict[str, int] = {one.page_name: one.number for one in self.programs[: len(BUILT_INS)]}
         self.numbers.update({one.name: one.number for one in self.programs})
 
     @classmethod
@@ -56,16 +65,20 @@ class Names:
         return str(case.get("name", "")) if isinstance(case, dict) else ""
 
     def number(self, program: str | int) -> int:
-        """The number of a program by its name; a number stays as it is."""
-        if isinstance(program, int):
-            return program
+        """The number of a program by its name; a number stays as it is. What is neither is a BadAnswer."""
+        if not isinstance(program, str):
+            try:
+                return operator.index(program)
+            except TypeError:
+                what = type(program).__name__
+            raise BadAnswer("a program is named by its name or its number, not by a value of the type %s" % cut(what))
         if program not in self.numbers:
-            raise BadAnswer("no program is named %s: there are %s" % (program, self.listed()))
+            raise BadAnswer("no program is named %s: there are %s" % (cut(program), self.listed()))
         return self.numbers[program]
 
     def listed(self) -> str:
         """The programs, as a message lists them."""
-        return ", ".join("%s (%d)" % (one.name, one.number) for one in self.programs)
+        return ", ".join("%s (%d)" % (one.page_name, one.number) for one in self.programs)
 
     def program(self, number: int) -> Declared | None:
         """A program by its number, or None."""

@@ -4,6 +4,7 @@ from __future__ import annotations
 import os
 import select
 import subprocess
+from contextlib import suppress
 from pathlib import Path
 from typing import List, Optional, Union
 
@@ -17,6 +18,21 @@ PIECE = 1 << 16
 HEAD = 16
 # how long a program that has closed its output may take to end, in seconds
 LEAVING = 60.0
+# the longest timeout in seconds: poll() has no more milliseconds
+LONGEST_TIMEOUT = 2_000_000
+
+
+def checked_timeout(seconds: Optional[float]) -> Optional[float]:
+    """A timeout in seconds, or None. What is neither is a CcpError."""
+    # a comparison with NaN never holds
+    if seconds is None or 0 < seconds <= LONGEST_TIMEOUT:
+        return seconds
+    raise CcpError("the timeout is %g: seconds above 0 and at most %d are expected" % (seconds, LONGEST_TIMEOUT))
+
+
+def broken(error: OSError) -> CcpError:
+    """The error of a pipe that fails, as where an agent has closed it."""
+    return CcpError("the pipes to ccp drive failed: %s" % (error.strerror or error))
 
 
 class Pipes:
@@ -59,6 +75,8 @@ class Pipes:
                 written += self._written(data[written : written + PIECE])
         except BrokenPipeError:
             raise self.ended("ccp drive has closed its input") from None
+        except OSError as error:
+            raise broken(error) from None
 
     def _written(self, data: bytes) -> int:
         try:
@@ -91,7 +109,10 @@ class Pipes:
         """Reads more of the output; False at its end."""
         if self.timeout is not None and not self._poll.poll(self._milliseconds()):
             raise self._silence()
-        piece = os.read(self._output, PIECE)
+        try:
+            piece = os.read(self._output, PIECE)
+        except OSError as error:
+            raise broken(error) from None
         self._held, self._at = (self._held[self._at :] + piece if self._at < len(self._held) else piece), 0
         return bool(piece)
 
@@ -124,7 +145,10 @@ class Pipes:
         """Closes the program's input."""
         assert self._process.stdin
         self.is_closed = True
-        self._process.stdin.close()
+        try:
+            self._process.stdin.close()
+        except OSError as error:
+            raise broken(error) from None
 
     def status(self) -> int:
         """The program's exit status, once it ends."""
@@ -137,7 +161,10 @@ class Pipes:
     def line(self) -> str:
         """What the ended program wrote on standard error."""
         assert self._process.stderr
-        return "" if self._process.stderr.closed else self._process.stderr.read().decode("utf-8", "replace")
+        try:
+            return "" if self._process.stderr.closed else self._process.stderr.read().decode("utf-8", "replace")
+        except OSError:
+            return ""
 
     def ended(self, when: str) -> Ended:
         """The error of a program that has ended on its own."""
@@ -158,7 +185,9 @@ class Pipes:
         self.kill()
         for stream in (self._process.stdin, self._process.stdout, self._process.stderr):
             if stream and not stream.closed:
-                stream.close()
+                # the agent may have closed the descriptor
+                with suppress(OSError):
+                    stream.close()
 
 
 def drive_words(program: Union[str, Path, None]) -> List[str]:

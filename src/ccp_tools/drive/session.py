@@ -3,13 +3,14 @@ from __future__ import annotations
 
 import hashlib
 import json
+from contextlib import suppress
 from pathlib import Path
 from typing import IO, Any, Dict, Iterator, List, Mapping, Optional, Union
 
 from ..errors import CcpError
-from ..files import read_bytes, reason_of
-from ..scenario_files import scenario_text
-from .errors import FrameRefused, NotAsked
+from ..files import name_of, reason_of
+from ..scenario_files import GivenScenario, given_scenario, scenario_text
+from .errors import BadAnswer, FrameRefused, NotAsked
 from .messages import (
     Answer,
     Change,
@@ -20,16 +21,15 @@ from .messages import (
     Event,
     Update,
     change_frame,
+    described,
     message_of,
     number_of,
     update_frame,
     values_of,
 )
 from .names import Declared, Names
-from .pipes import Pipes, drive_words
+from .pipes import Pipes, checked_timeout, drive_words
 
-# a scenario: its members, the path of its file, or its bytes
-GivenScenario = Union[Mapping[str, Any], str, Path, bytes]
 # no scenario has a flow of this number: an update of it is refused at once, also after the last flow
 NO_FLOW = 2**32 - 1
 PROBE = update_frame(NO_FLOW, ())
@@ -38,17 +38,18 @@ OTHER_FLOW, PROGRAM_ABOVE, NO_PROGRAM, NO_REGISTER = 3, 4, 6, 8
 
 
 def scenario_bytes(scenario: GivenScenario) -> bytes:
-    """The bytes of a scenario that is given as a dict, as the path of a file, or as bytes, with a line end at its
-    end."""
-    if isinstance(scenario, bytes):
-        data = scenario
-    elif isinstance(scenario, (str, Path)):
-        data = read_bytes(scenario)
-    else:
-        # a scenario that the program refuses goes to it as it is
-        text = scenario_text(scenario) if isinstance(scenario.get("cases"), list) else json.dumps(scenario)
-        data = text.encode("utf-8", "surrogateescape")
+    """The bytes of a scenario, as given_scenario takes it, with a line end at its end."""
+    given = given_scenario(scenario)
+    data = given if isinstance(given, bytes) else text_of(given).encode("utf-8", "surrogateescape")
     return data if data.endswith(b"\n") else data + b"\n"
+
+
+def text_of(scenario: Mapping[str, Any]) -> str:
+    """The text of a scenario's members. One that the program refuses goes to it as it is."""
+    try:
+        return scenario_text(scenario) if isinstance(scenario.get("cases"), list) else json.dumps(scenario)
+    except (TypeError, ValueError, RecursionError) as error:
+        raise CcpError("the scenario's members can't be written as JSON: %s" % error) from None
 
 
 def with_programs(scenario: Mapping[str, Any], programs: Mapping[str, str]) -> Dict[str, Any]:
@@ -79,7 +80,7 @@ class Session:
                 else:
                     session.change("p", cwnd=14480, gain=2)
 
-    `scenario` is a dict, the path of a file, or bytes; `program` the path of `ccp`; `record` the path of a file that
+    `scenario` is a dict, a text, or the path of a file; `program` the path of `ccp`; `record` the path of a file that
     gets the recording, which is an input of `drive`, `drive-table`, `drive-timeline` and `drive-acks`. The program may
     be silent for `timeout` seconds; None waits for ever.
 
@@ -96,7 +97,7 @@ class Session:
         timeout: Optional[float] = None,
     ) -> None:
         self._scenario = scenario_bytes(scenario)
-        self._program, self._record, self._timeout = program, record, timeout
+        self._program, self._record, self._timeout = program, record, checked_timeout(timeout)
         self._file: Optional[IO[bytes]] = None
         self._pipes: Optional[Pipes] = None
         self._sent: List[bytes] = []
@@ -129,7 +130,7 @@ class Session:
             try:
                 self._file = open(self._record, "wb")
             except OSError as error:
-                raise CcpError("%s: %s" % (self._record, reason_of(error))) from None
+                raise self._unrecorded(error) from None
         try:
             self._pipes = Pipes(drive_words(self._program), self._timeout)
             self._send(self._scenario + SEPARATOR)
@@ -156,17 +157,35 @@ class Session:
             if status:
                 when = "the session ended while flow %d waited for an answer" % self.event.flow if self.event else ""
                 raise pipes.ended(when)
+            self._keep(b"", is_last=True)
         finally:
             self.close()
 
     def close(self) -> None:
-        """Ends the program where it runs, and closes the recording."""
+        """Ends the program where it runs, and closes the recording. What of it can't be written is lost without an
+        error; `finish` raises one."""
         self.event = None
         if self._pipes is not None:
             self._pipes.close()
         if self._file is not None:
-            self._file.close()
+            with suppress(OSError):
+                self._file.close()
             self._file = None
+
+    def _keep(self, data: bytes, is_last: bool = False) -> None:
+        """Writes what was sent to the recording. An error of what comes before the last part may show there."""
+        if self._file is None:
+            return
+        try:
+            self._file.write(data)
+            if is_last:
+                self._file.flush()
+        except OSError as error:
+            raise self._unrecorded(error) from None
+
+    def _unrecorded(self, error: OSError) -> CcpError:
+        """The error of a recording that can't be written."""
+        return CcpError("%s: %s" % (name_of(self._record or ""), reason_of(error)))
 
     @property
     def pid(self) -> int:
@@ -207,14 +226,16 @@ class Session:
         program: Union[str, int],
         /,
         *,
-        cwnd: Optional[int] = None,
-        rate: Optional[int] = None,
-        **controls: int,
+        cwnd: Optional[float] = None,
+        rate: Optional[float] = None,
+        **controls: float,
     ) -> Optional[Event]:
         """Answers by a change to a program, and returns what comes next, as Change has it."""
         return self.answer(Change(program, cwnd=cwnd, rate=rate, **controls))
 
-    def update(self, /, *, cwnd: Optional[int] = None, rate: Optional[int] = None, **controls: int) -> Optional[Event]:
+    def update(
+        self, /, *, cwnd: Optional[float] = None, rate: Optional[float] = None, **controls: float
+    ) -> Optional[Event]:
         """Answers by an update, and returns what comes next, as Update has it."""
         return self.answer(Update(cwnd=cwnd, rate=rate, **controls))
 
@@ -228,6 +249,8 @@ class Session:
             program = self.names.program(number)
             frame = change_frame(flow, number, values_of(given, program))
             self._asked, self._running = number, program
+        elif not isinstance(given, Update):
+            raise BadAnswer("an answer is an Update, a Change or None, not %s" % described(answer))
         else:
             frame = update_frame(flow, values_of(given, self._running))
             self._asked = None
@@ -261,8 +284,7 @@ class Session:
     def _send(self, data: bytes) -> None:
         pipes = self._running_pipes()
         self._sent.append(data)
-        if self._file is not None:
-            self._file.write(data)
+        self._keep(data)
         pipes.write(data)
 
     @property
@@ -295,7 +317,7 @@ def cause(refused: Refused, program: Optional[int], running: Optional[Declared],
         return "there is no program %d: there are %s" % (refused.index, names.listed())
     if refused.reason == NO_REGISTER:
         of = running if program is None else names.program(program)
-        name = "the program" if of is None else "the program %s" % of.name
+        name = "the program" if of is None else "the program %s" % of.page_name
         return "value %d of the frame, counted from 0, is for a control variable that %s doesn't have" % (
             refused.index,
             name,

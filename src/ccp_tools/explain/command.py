@@ -171,11 +171,19 @@ def add_arguments(parser: argparse.ArgumentParser) -> None:
     parser.add_argument("file", nargs="?", default="-", metavar="FILE", help="the input; standard input without it")
 
 
+TRACE = (
+    "%s: this is a trace, and no input of ccp itself: `ccp compare %s --senders linux-reno,linux-cubic --out DIR` runs"
+    " senders over it, and `ccp trace info %s` shows it"
+)
+
+
 def run(arguments: argparse.Namespace) -> int:
     """Explains an input. Returns 0 where it is accepted and 1 where it is refused; an input that can't be read, and no
     program to ask, are a CcpError of status 2."""
     try:
         given = Given(name_of(arguments.file), read_bytes(arguments.file))
+        if looks_like_trace(given.text) and arguments.mode is None:
+            raise CcpError(TRACE % ((given.name,) + (arguments.file,) * 2))
         program = find_program(arguments.ccp)
         status, lines = lines_of(program, given, arguments.mode or mode_of(given), arguments.quiet)
     except CcpError as error:

@@ -147,6 +147,9 @@ class Watch:
                 self._infinite_in(command.parts[2], known)
                 self._infinite_blend(command, known)
                 self._settle(command, known, again)
+            if not any(part.head() == "fallthrough" for part in block.parts[2:]):
+                # no later block sees what this one assigned: the acknowledgement ends with it
+                continue
             # a condition of which a name is assigned may hold later where it didn't before
             assigned = {command.parts[1].text for command in commands}
             under = [one for one in [*under, (block.parts[1], known)] if not assigned & texts_in(one[0])]
