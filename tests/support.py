@@ -129,6 +129,12 @@ def table_text(rows: Iterable[Dict[str, Any]]) -> str:
     return "".join(" ".join(line) + "\n" for line in lines)
 
 
+def three_digits(value: float, decimals: int) -> str:
+    """A number with these decimals, or as many as three significant digits need; 0 has none."""
+    plain, short = "%.*f" % (decimals, value), "%#.3g" % value
+    return max(plain, short, key=lambda text: len(text.partition(".")[2])) if value else "0"
+
+
 def script(folder: Path, name: str, text: str, first: str = "#!/usr/bin/env bash\n") -> Path:
     """A new executable in a folder: a script of bash, unless another first line is given."""
     path = folder / name

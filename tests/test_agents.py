@@ -1,4 +1,4 @@
-"""The agents of examples/agents/, in Python and in C, over examples/drive.json."""
+"""The agents of examples/agents/, in Python, in C and in Perl, over examples/drive.json."""
 from __future__ import annotations
 
 import importlib.util
@@ -178,19 +178,56 @@ def compiled(tmp_path_factory: pytest.TempPathFactory) -> Path:
     return path
 
 
-def test_the_agent_in_c_is_short() -> None:
-    assert len((AGENTS / "aimd.c").read_text(encoding="utf-8").split("\n")) <= 81
+@pytest.mark.parametrize("name", ["aimd.c", "aimd.pl"])
+def test_agents_in_other_languages_are_short(name: str) -> None:
+    assert len((AGENTS / name).read_text(encoding="utf-8").split("\n")) <= 81
+
+
+# as the heads of the agents say; `timeout` ends what waits for ever
+RECIPE = "mkfifo frames; (cat %s; echo ---; %s) < frames | tee run.drive | %s drive > frames"
+
+
+def recorded(folder: Path, scenario: Path, agent: Path, driver: Path) -> bytes:
+    """The recording of a run over two pipes."""
+    folder.mkdir(exist_ok=True)
+    line = "set -o pipefail; " + RECIPE % (scenario, agent, driver)
+    made = ran(["timeout", "100", "bash", "-c", line], cwd=folder)
+    assert (made.status, made.errors) == (0, "")
+    return (folder / "run.drive").read_bytes()
+
+
+def test_the_recipe_is_that_of_the_pages() -> None:
+    """The whole group reads the frames, so that their pipe is open while the scenario is written."""
+    recipe = re.compile(r"\(cat \S+; echo ---; \S+\) < (\S*frames) \| (tee \S+ \| )?\./ccp drive > \1$", re.MULTILINE)
+    for path in (AGENTS / "aimd.c", AGENTS / "aimd.pl", REPOSITORY / "docs" / "drive.md"):
+        assert recipe.search(path.read_text(encoding="utf-8")), path
 
 
 @needs("mkfifo")
 def test_the_agent_in_c(driver: Path, compiled: Path, tmp_path: Path) -> None:
     """Over two pipes, as its head says; its run is that of aimd.py."""
-    line = "mkfifo frames; (cat %s; echo ---; %s < frames) | tee run.drive | %s drive > frames"
-    made = ran(["bash", "-o", "pipefail", "-c", line % (SCENARIO, compiled, driver)], cwd=tmp_path, timeout=120)
-    assert (made.status, made.errors) == (0, "")
-    table = frames.read_table(ran([driver, "drive-table"], (tmp_path / "run.drive").read_bytes()).output)
+    recording = recorded(tmp_path, SCENARIO, compiled, driver)
+    table = frames.read_table(ran([driver, "drive-table"], recording).output)
     other = drive.run(drive.load_agent(AGENTS / "aimd.py"), SCENARIO, program=driver).table()
     assert table.equals(other)
+
+
+@needs("mkfifo", "perl")
+def test_the_agent_in_perl(program: Path, compiled: Path, tmp_path: Path) -> None:
+    """It writes the frames of the agent in C."""
+    one, other = (recorded(tmp_path / path.name, SCENARIO, path, program) for path in (compiled, AGENTS / "aimd.pl"))
+    assert one == other and len(one) > 10_000
+
+
+@needs("mkfifo")
+def test_a_scenario_that_no_pipe_holds(program: Path, compiled: Path, tmp_path: Path) -> None:
+    """Nobody waits for another one while the scenario is on its way."""
+    scenario = json.loads(SCENARIO.read_text(encoding="utf-8"))
+    scenario["traces"]["fixed"] = "".join("%d\n" % at for at in range(1, 139_000))
+    path = tmp_path / "long.json"
+    path.write_text(json.dumps(scenario) + "\n", encoding="utf-8")
+    assert path.stat().st_size > 1_000_000
+    assert recorded(tmp_path, path, compiled, program).startswith(path.read_bytes() + b"---\n\5")
 
 
 def test_the_agent_in_c_names_a_refusal(driver: Path, compiled: Path, tmp_path: Path) -> None:

@@ -4,6 +4,7 @@ from __future__ import annotations
 import argparse
 
 import pytest
+from inside import run_inside
 from support import TRACES
 
 from ccp_tools import aggregation, queues, scenario
@@ -11,7 +12,7 @@ from ccp_tools.errors import CcpError, UsageError
 from ccp_tools.losses import loss
 from ccp_tools.queues import Queue
 from ccp_tools.tables import LIMITS
-from ccp_tools.traces import Trace, read_trace
+from ccp_tools.traces import Trace, read_trace, trace_text
 
 # a packet each millisecond, and four in five with a gap
 STEADY, UNEVEN = Trace([1]), Trace([1, 2, 3, 5])
@@ -86,14 +87,35 @@ def test_a_queue_that_no_scenario_accepts(fast):
 def test_times_keep_their_rate_and_period():
     times = list(range(1, 8))
     for count in (1, 2, 3, 7, 14):
-        made = aggregation.times_of(times, count, "t")
+        made = aggregation.aggregated(times, count, "t").times
         turns = made[-1] / times[-1]
         assert turns == int(turns) and count * len(made) == turns * len(times)
         link, one = Trace(made), Trace(times)
         for us in (0, 3000, 7000, 20_000, 123_000):
             assert link.chances(us) == one.chances(us) // count
     with pytest.raises(CcpError, match="t: --aggregate 2 needs 2 turns"):
-        aggregation.times_of([LIMITS["trace_ms"]], 2, "t")
+        aggregation.aggregated([LIMITS["trace_ms"]], 2, "t")
+
+
+@pytest.mark.parametrize("chances", [40_000, 40_001, 40_002, 40_003])
+@pytest.mark.parametrize("count", [2, 3, 4, 7, 45])
+def test_every_long_trace_is_shortened(chances, count):
+    """Also one whose chances aren't a multiple: its text is shorter, its period the same, its rate within K/N."""
+    times = sorted((number * 7919) % 60_000 + 1 for number in range(chances))
+    made = aggregation.aggregated(times, count, "t")
+    assert len(made.times) == chances // count and made.left_over == chances % count
+    assert made.times[-1] == times[-1] and made.times[:-1] == times[count - 1 :: count][: len(made.times) - 1]
+    assert len(trace_text(made.times)) < len(trace_text(times)) / (count - 0.1)
+    assert 0 <= 1 - count * len(made.times) / chances < count / chances
+
+
+def test_what_is_left_over_is_said_on_one_line(tmp_path):
+    path = tmp_path / "long.trace"
+    path.write_text(trace_text(range(1, 40_004)))
+    made = run_inside("scenario", "--senders", "reno", "--seconds", 9, "--aggregate", 4, path)
+    said = "the last 3 of the 40003 chances of the trace long go with the packet before: 0.0075 % less"
+    assert made.status == 0 and made.errors == "ccp: warning: --aggregate 4: %s\n" % said
+    assert run_inside("scenario", "--aggregate", 4, "--quiet", path).errors == ""
 
 
 def test_what_is_counted_in_packets():

@@ -66,6 +66,15 @@ def test_documents_are_written_again_from_the_tables():
         assert count == 1 and script.WITH_TABLES[path](changed) == texts[path], (path, found)
 
 
+def test_the_costs_have_a_row_for_each_crate():
+    """A new crate gets an empty row at its place, and the row of a crate that is gone goes."""
+    script = loaded("check-docs")
+    text = (REPOSITORY / script.COSTS).read_text(encoding="utf-8")
+    row = re.search("^slot_pool,.*\n", text, re.MULTILINE).group()
+    made = script.costs_with_crates(text.replace(row, "gone,1.0,,,2.0\n"))
+    assert script.costs_with_crates(text) == text and made == text.replace(row, "slot_pool,,,,\n")
+
+
 def test_a_row_of_a_mode_is_written_into_readme():
     """A row that differs from the tables is made anew, with an example and without links; all others stay."""
     script = loaded("check-docs")
@@ -126,7 +135,7 @@ def test_the_files_of_a_recipe_are_counted():
     script.MOST_FILES = {"A change": 3}
     assert found_in(script, RECIPE) == ""
     (recipe,) = script.recipes(RECIPE.split("\n"))
-    assert [recipe.count(need) for need in script.NEEDS] == [2, 1, 2, 2]
+    assert [recipe.count(need) for need in script.NEEDS] == [2, 1, 0, 2, 2]
 
 
 @pytest.mark.parametrize(
@@ -137,7 +146,7 @@ def test_the_files_of_a_recipe_are_counted():
         ("cases: 2", "cases: 3", "page:1: A change: 3 files for special cases are stated, and its table has 2"),
         ("`ccp_base/src/ack.rt`", "`ccp_base/src/no.rt`", "page:6: there is no ccp_base/src/no.rt"),
         ("`docs/flow.md`", "`docs/no.md`", "page:9: there is no docs/no.md"),
-        ("| proof |", "| proofs |", "page:7: a file is needed for proofs: nothing, proof, script, special"),
+        ("| proof |", "| proofs |", "page:7: a file is needed for proofs: nothing, proof, number, script, special"),
         ("ack.rt`", "ack.rt`, `ccp_base/src/lib.rt`", "page:6: a row that counts is of one file, and this one of 2"),
         ("**A change**", "**A new change**", "page: there is no recipe: A change"),
     ],
@@ -154,8 +163,75 @@ def test_a_recipe_has_a_limit():
     assert found_in(script, RECIPE) == "page:1: A change: 3 files are more than 2\n"
 
 
+EXAMPLE = """**A change** (as `max`): 4 files.
+
+| File | What changes | Needed for |
+|---|---|---|
+| `low/specs/Table.antt` | its row | |
+| `low/src/lib.rt` | its arm | |
+| `low/specs/Limits.antt` | the greatest number | number |
+| `x_agent/src/x.rt` | new | |
+| `docs/page.md`, `high/src/tests.rt` | words | special |
+
+Only use the example: `high/src/u*.rt`.
+
+Special cases: 2 files.
+"""
+
+
+def found_by_example(tmp_path, text=EXAMPLE, **more):
+    """What check-docs finds of a recipe whose example stands in four files of two crates, and in a third one."""
+    script = loaded("check-docs")
+    script.TOP = str(tmp_path)
+    script.MOST_FILES = {"A change": 4}
+    script.EXAMPLES = {"A change": script.Example(r"\bMax\b", outside=("other",), new=("Y", "y"))}
+    sources = {
+        "low/specs/Table.antt": "Max",
+        "low/specs/Limits.antt": "15",
+        "low/src/lib.rt": "Op::Max => 1",
+        "y_agent/src/y.rt": "Max",
+        "high/src/uses.rt": "Max",
+        "high/src/tests.rt": "Maxima",
+        "other/src/lib.rt": "Max",
+        "low/must-fail/one.edit": "Max",
+        "../docs/page.md": "Max",
+    }
+    for name, content in {**sources, **more}.items():
+        (tmp_path / "crates" / name).parent.mkdir(parents=True, exist_ok=True)
+        (tmp_path / "crates" / name).write_text(content, encoding="utf-8")
+    return found_in(script, text).splitlines()
+
+
+def test_a_recipe_has_the_files_in_which_its_example_stands(tmp_path):
+    assert not found_by_example(tmp_path)
+
+
+def test_a_file_that_a_recipe_lacks_is_found(tmp_path):
+    """A new file in which the example stands, and an old one whose row is taken out."""
+    new = {"high/specs/New.antt": "row Max", "high/specs/Other.antt": "row Maximum"}
+    assert found_by_example(tmp_path, **new) == ["page:1: A change: high/specs/New.antt has the example, and no row"]
+    without = EXAMPLE.replace("| `low/src/lib.rt` | its arm | |\n", "").replace("4 files", "3 files")
+    (tmp_path / "crates/high/specs/New.antt").unlink()
+    assert found_by_example(tmp_path, without) == ["page:1: A change: low/src/lib.rt has the example, and no row"]
+
+
+def test_a_row_of_a_recipe_has_the_example_or_is_for_a_number(tmp_path):
+    wrong = EXAMPLE.replace("its row | |", "its row | number |").replace("greatest number | number |", "number | |")
+    assert found_by_example(tmp_path, wrong) == [
+        "page:5: A change: low/specs/Table.antt has the example, so it isn't needed for a number",
+        "page:7: A change: low/specs/Limits.antt doesn't have the example",
+    ]
+
+
+def test_a_file_that_no_longer_uses_the_example_is_found(tmp_path):
+    assert found_by_example(tmp_path, **{"high/src/uses.rt": "-"}) == [
+        "page:1: A change: high/src/u*.rt doesn't have the example"
+    ]
+
+
 def test_the_recipes_of_the_page():
     script = loaded("check-docs")
     text = (REPOSITORY / script.CHANGING).read_text(encoding="utf-8")
     assert found_in(script, text) == ""
-    assert {recipe.title for recipe in script.recipes(text.split("\n"))} == set(script.MOST_FILES)
+    titles = {recipe.title for recipe in script.recipes(text.split("\n"))}
+    assert titles == set(script.MOST_FILES) == set(script.EXAMPLES)

@@ -16,14 +16,18 @@ from pathlib import Path
 from types import SimpleNamespace
 
 import pytest
-from support import EXAMPLES, REPOSITORY, TRACES, command, needs, ran, require, script
+from inside import run_inside
+from support import EXAMPLES, REPOSITORY, TRACES, command, needs, ran, require, script, three_digits
 
 pytestmark = needs("import matplotlib", "import pandas", "import jinja2")
 require("matplotlib")
 
-from ccp_tools.compare import cases, shared  # noqa: E402
+from ccp_tools import metrics  # noqa: E402
+from ccp_tools.cautions import Caution  # noqa: E402
+from ccp_tools.compare import cases, report, shared  # noqa: E402
 from ccp_tools.compare import command as compare  # noqa: E402
 from ccp_tools.compare.cases import Comparison  # noqa: E402
+from ccp_tools.metrics import Window  # noqa: E402
 from ccp_tools.queues import Queue  # noqa: E402
 from ccp_tools.traces import Trace, read_trace  # noqa: E402
 
@@ -99,10 +103,10 @@ def own_figures(folder: Path, begin_us: int = 0):
 
 def cells_of(own):
     """The cells of the report's first table, in its order."""
-    shown = [("throughput_mbps", "%.2f", 1), ("utilization", "%.1f", 100), ("loss_rate", "%.2f", 100)]
-    shown += [("queueing_%s_ms" % name, "%.1f", 1) for name in ("mean", "p50", "p95", "p99")]
-    shown += [("power", "%.3f", 1), ("span_s", "%.2f", 1)]
-    return [form % (own[name] * factor) for name, form, factor in shown]
+    shown = [("throughput_mbps", 2, 1), ("utilization", 1, 100), ("loss_rate", 2, 100)]
+    shown += [("queueing_%s_ms" % name, 1, 1) for name in ("mean", "p50", "p95", "p99")]
+    shown += [("power", 3, 1), ("span_s", 2, 1)]
+    return [three_digits(own[name] * factor, decimals) for name, decimals, factor in shown]
 
 
 def rows_of_page(page: str):
@@ -145,7 +149,7 @@ def test_each_figure_of_the_report(request, name, begin_us, extra):
         means = [sum(one[name] for one in of_all) / 2 for name in ("utilization", "loss_rate", "queueing_p95_ms")]
         wanted = "".join(
             '<td class="number">%s</td>' % text
-            for text in ("%.1f" % (100 * means[0]), "%.2f" % (100 * means[1]), "%.1f" % means[2])
+            for text in map(three_digits, (100 * means[0], 100 * means[1], means[2]), (1, 2, 1))
         )
         assert re.search(r"<td>%s( \u26a0)?</td>%s" % (sender, re.escape(wanted)), page), (sender, wanted)
 
@@ -177,7 +181,6 @@ def test_doubts_are_seen_and_never_bold(compared):
     page = (compared / "report.html").read_text()
     for cells, is_marked, is_bold in rows_of_page(page):
         assert is_marked == cells[1].startswith("faulty") and not (is_marked and is_bold), cells
-    assert any(is_bold for _, _, is_bold in rows_of_page(page))
     assert "case fixed-faulty: " in (compared / "errors").read_text() and "faults of its program" in page
     warning = "faulty.portus:2:44: `least` begins as `+infinity`: a sum of it is a fault (`Overflow`)"
     assert warning in (compared / "errors").read_text() and warning in html.unescape(page).partition('id="results"')[0]
@@ -253,14 +256,170 @@ def test_no_sender_ends_before_the_span():
         longest = cases.longest_us(link, 1_000_000)
         assert cases.most_acks(link, longest, 1_000_000) <= 65_536 < cases.most_acks(link, longest + 1000, 1_000_000)
     grid = Comparison([("wave", str(TRACES[1]))])
-    assert grid.scenario()["cases"][0]["acks"] > 10_000 and grid.spans_us == {"wave": 15_000_000}
+    assert grid.scenario()["cases"][0]["acks"] > 20_000 and grid.spans_us == {"wave": 30_000_000}
+
+
+@pytest.mark.parametrize(
+    "span_s, begin_s",
+    [(30, 5), (29.999, 4.9), (65.5, 5), (18, 3), (10, 1.6), (9.999, 0), (7.863, 0), (0.4, 0), (None, 0)],
+)
+def test_how_much_is_left_out_where_nothing_is_said(span_s, begin_s):
+    """5 s of 30 s or more, a sixth of less, and nothing below 10 s or where the length isn't known."""
+    span_us = None if span_s is None else round(1e6 * span_s)
+    assert cases.begin_of(span_us) == 1e6 * begin_s
+    grid = SimpleNamespace(spans_us={} if span_us is None else {"a": span_us})
+    scenario = {"traces": {"a": "1\n"}}
+    assert compare.windows_of(grid, scenario, None) == {"a": Window(cases.begin_of(span_us), span_us)}
+    assert compare.windows_of(grid, scenario, 0) == {"a": Window(0, span_us)}
+
+
+def test_a_trace_alone_is_a_comparison(tmp_path):
+    """Of the senders like Linux, over 30 s but for the first 5, with a note where fewer fit, in a new folder."""
+    parser = compare.Parser()
+    compare.add_arguments(parser)
+    given = parser.parse_args(["fixed.trace"])
+    assert given.senders is None and compare.begin_given(given) is None
+    assert compare.begin_given(parser.parse_args(["fixed.trace", "--from", "0"])) == 0
+    # a log counts from its first packet
+    assert compare.begin_given(parser.parse_args(["fixed.trace", "--measured", "log"])) == 0
+    made = run_inside("compare", TRACES[0], "--dry-run")
+    assert made.status == 0 and "cases=2\nacknowledgements=60062\ntrace fixed seconds=30\n" in made.output, made.errors
+    fast = tmp_path / "fast.trace"
+    fast.write_text("".join("%d\n" % (number // 9) for number in range(9, 1000)))
+    made = run_inside("compare", fast, "--dry-run")
+    text = "the trace fast is measured over 7.339 s: 30 s need more than 65536 acknowledgements"
+    assert made.errors == "ccp: warning: %s (--seconds 7.339, or --aggregate 5)\n" % text
+
+
+def test_a_comparison_without_a_folder_gets_a_new_one(program, tmp_path, monkeypatch):
+    """It is said on standard output, also with --quiet, and no comparison before it loses its files."""
+    monkeypatch.chdir(tmp_path)
+    (tmp_path / "ccp-out").mkdir()
+    (tmp_path / "ccp-out" / "report.html").write_text("mine")
+    words = ["compare", TRACES[0], "--senders", "reno", "--acks", "60", "--quiet", "--ccp", program]
+    made = run_inside(*words)
+    assert made.status == 0 and made.output.endswith("\nreport: ccp-out-2/report.html\n"), made.errors
+    assert (tmp_path / "ccp-out" / "report.html").read_text() == "mine"
+    assert (tmp_path / "ccp-out-2" / "report.html").is_file() and "from" not in (
+        tmp_path / "ccp-out-2" / "compare.toml"
+    ).read_text()
+
+
+def test_cautions_are_seen(compared):
+    """Below the table and in the first box, with the page that has more; and nothing that they are about is bold."""
+    page, printed = (compared / "report.html").read_text(), (compared / "printed").read_text()
+    text = "fixed, wave: less than 30 s were measured, with slow start in them, which changes each figure"
+    assert "\ncaution: %s: --seconds 30 --from 5 leaves it out (docs/fidelity.md#rules-of-thumb)\n" % text in printed
+    box = page.partition("Before you read the figures")[2].partition("</ul>")[0]
+    assert text in box and '<a href="docs/fidelity.md#rules-of-thumb">' in box
+    assert not any(is_bold for _, _, is_bold in rows_of_page(page))
+    below = page.partition('<table id="figures">')[2].partition("</table>")[2]
+    assert "None is bold where a caution above is about this figure" in below.partition("<h3>")[0]
+
+
+def row(sender, trace="t", doubts="", half=None, **figures):
+    """A row of the table, with its figure of each seed where they are lists."""
+    by_seed, values = {}, dict.fromkeys(report.TABLE, (1.0, half))
+    for name, value in figures.items():
+        if isinstance(value, list):
+            by_seed = {seed: {**by_seed.get(seed, {}), name: one} for seed, one in enumerate(value)}
+            value = sum(value) / len(value)
+        values[name] = (value, half)
+    return report.Row({"trace": trace, "sender": sender}, values, doubts, ("%s-%s" % (trace, sender),), by_seed)
+
+
+def best_in(rows, name, found=()):
+    """The senders whose figure is bold."""
+    return [one.by["sender"] for one in rows if report.best_of(rows, one, name, found)]
+
+
+def test_the_best_value_is_bold_where_no_caution_is_about_it():
+    rows = [row("a", throughput_mbps=3.0, loss_rate=0.2), row("b", throughput_mbps=2.0, loss_rate=0.1)]
+    rows += [row("c", throughput_mbps=9.0, doubts="no report"), row("d", trace="u", throughput_mbps=1.0)]
+    assert best_in(rows, "throughput_mbps") == ["a"] and best_in(rows, "loss_rate") == ["b"]
+    assert best_in(rows, "power") == [] == best_in(rows, "span_s")
+    losses = [Caution("why", "limits", frozenset(["t-b"]), frozenset(["loss_rate"]))]
+    assert best_in(rows, "loss_rate", losses) == [] and best_in(rows, "throughput_mbps", losses) == ["a"]
+    assert best_in(rows, "throughput_mbps", [Caution("why", "limits", frozenset(["t-a"]))]) == []
+    assert best_in(rows, "throughput_mbps", [Caution("why", "limits", frozenset(["u-d"]))]) == ["a"]
+
+
+@pytest.mark.parametrize(
+    "first, second, half, best",
+    [
+        # the intervals don't meet
+        ([5.0, 5.1, 4.9], [3.0, 3.2, 2.9], 0.5, ["a"]),
+        # they meet, and each seed has the same order: t = 17.3 with two degrees of freedom, whose limit is 4.30
+        ([5.0, 7.0, 9.0], [4.8, 6.9, 8.8], 5.0, ["a"]),
+        # t = 2.3
+        ([5.0, 7.0, 9.0], [4.9, 6.6, 8.8], 5.0, []),
+        ([5.0, 7.0, 9.0], [5.0, 7.0, 9.0], 0.0, []),
+        ([5.0, 7.0, None], [4.8, None, 8.8], 5.0, []),
+    ],
+)
+def test_over_seeds_the_best_value_is_bold_where_it_is_apart(first, second, half, best):
+    known = [[value for value in some if value is not None] for some in (first, second)]
+    rows = [row(name, half=half, throughput_mbps=some) for name, some in zip("ab", known)]
+    for one, some in zip(rows, (first, second)):
+        one.by_seed.update({seed: {"throughput_mbps": value} for seed, value in enumerate(some)})
+    assert best_in(rows, "throughput_mbps") == best
+    # a third one that is as good leaves none
+    assert best_in([*rows, row("c", half=half, throughput_mbps=known[0])], "throughput_mbps") == []
+
+
+def test_the_first_box_says_how_much_was_measured(compared):
+    """Of a recording that isn't measured to its end, and nothing of one that is."""
+    box = (compared / "report.html").read_text().partition("Before you read the figures")[2].partition("</ul>")[0]
+    assert "<li>wave: 0.4 of 4 s of the recording were measured</li>" in box and "<li>fixed: " not in box
+
+
+def test_a_recording_that_a_limit_shortens(tmp_path):
+    """The box has the reason and the way out, and so does standard output; --quiet has no part in either."""
+    path = tmp_path / "lte.trace"
+    path.write_text("".join("%d\n" % number for number in range(1, 140_001)))
+    grid = Comparison([(None, str(path))], is_quiet=True)
+    grid.draft()
+    windows = {"lte": Window(0, grid.spans_us["lte"])}
+    found = report.Page.parts_measured(SimpleNamespace(grid=grid, windows=windows))
+    reason = "140 s need more than 65536 acknowledgements; it is whole with --aggregate 3"
+    assert found == ["lte: 65.5 of 140 s of the recording were measured: " + reason]
+    whole = Comparison([(None, str(path))], aggregate=3)
+    assert whole.draft()["cases"][0]["acks"] <= 65_536 and whole.spans_us == {"lte": 140_000_000}
+    assert not report.Page.parts_measured(SimpleNamespace(grid=whole, windows={"lte": Window(0, 140_000_000)}))
+
+
+def test_gaps_that_aggregation_makes_are_no_gaps_of_the_recording(tmp_path):
+    """A packet of four chances leaves with the last one, 270 ms after the one before."""
+    path = tmp_path / "slow.trace"
+    path.write_text("".join("%d\n" % (90 * number) for number in range(1, 101)) + "9150\n")
+    words = ["compare", path, "--senders", "reno", "--dry-run", "--aggregate", "4"]
+    made = run_inside(*words)
+    assert made.status == 0 and made.errors == "", made.errors
+    path.write_text(path.read_text() + "9400\n")
+    assert "the trace slow has 1 gap longer than 200 ms, up to 250 ms" in run_inside(*words).errors
+
+
+@pytest.mark.parametrize(
+    "value, half, text",
+    [
+        (0.00312, None, "0.00312"),
+        (0.0031249, 0.0010249, "0.00312 ±0.00102"),
+        (0, 0, "0 ±0"),
+        (0, None, "0"),
+        (0, 0.0123, "0 ±0.0123"),
+        (11.541, 0.2, "11.541 ±0.200"),
+        (1e-9, None, "1.00e-09"),
+    ],
+)
+def test_figures_have_three_significant_digits(value, half, text):
+    assert metrics.SHOWN["power"].text(value, half) == text
 
 
 @pytest.mark.parametrize(
     "words, status, error",
     [
-        (["{trace}"], 2, "--senders LIST is expected"),
-        (["{trace}", "--senders", "reno"], 2, "--out DIR is expected"),
+        (["{trace}", "--senders", "", "--out", "{out}"], 2, "before and after each comma"),
+        (["{trace}", "--from", "0.2", "--seconds", "0.2", "--out", "{out}"], 2, "--from 0.2: fixed is measured over"),
         (["{trace}", "--senders", "bbr", "--out", "{out}"], 2, "bbr is no sender"),
         (["{trace}", "--senders", "reno", "--delay", "20"], 2, "--delay 20 (did you mean --delay-ms?)"),
         (["{trace}", "--senders", "reno,", "--out", "{out}"], 2, "before and after each comma"),
@@ -318,6 +477,18 @@ def test_the_file_keeps_every_option(tmp_path):
     assert {**vars(read), "losses": None} == {**vars(given), "losses": None}
 
 
+@pytest.mark.parametrize("words, begin_us", [("--from 0", 0), ("--from 2.5", 2_500_000), ("", None)])
+def test_the_file_keeps_what_is_left_out(tmp_path, words, begin_us):
+    """Where nothing was said it says nothing, so that each trace gets its own beginning again."""
+    parser = compare.Parser()
+    compare.add_arguments(parser)
+    given = parser.parse_args(["a=%s" % TRACES[0], "--senders", "reno", *words.split()])
+    text = compare.toml_text(given, compare.comparison_of(given))
+    (tmp_path / "one.toml").write_text(text)
+    assert ("from = " in text) == (begin_us is not None)
+    assert compare.with_file(parser.parse_args([str(tmp_path / "one.toml")])).begin == begin_us
+
+
 def wait_for_processes(begun_by):
     """Waits until a process has begun others, for half a second at most: on one processor it begins none."""
     end = time.monotonic() + 0.5
@@ -368,7 +539,7 @@ def test_an_interrupt_ends_a_comparison(program, tmp_path, number, is_for_all, s
 
 
 def test_an_older_comparison_leaves_no_plot(compared, tmp_path, program):
-    """Neither its further pages and other forms, nor what a version without a list of files wrote."""
+    """Neither its further pages and other forms; where there is no list of files, they are the user's own."""
     for has_list in (True, False):
         out = tmp_path / ("listed" if has_list else "old")
         shutil.copytree(compared, out)
@@ -381,8 +552,15 @@ def test_an_older_comparison_leaves_no_plot(compared, tmp_path, program):
             (out / "files.json").write_text(json.dumps(names + older))
         else:
             (out / "files.json").unlink()
-        words = [TRACES[0], "--senders", "reno", "--acks", "60", "--quiet", "--out", out]
-        assert command("compare", *words).status == 0
+        there = {path.name: path.read_bytes() for path in out.iterdir()}
+        made = command("compare", TRACES[0], "--senders", "reno", "--acks", "60", "--quiet", "--out", out)
+        if not has_list:
+            assert (
+                made.status == 1 and "%s: this command writes a file of this name" % (out / "acks.txt") in made.errors
+            )
+            assert {path.name: path.read_bytes() for path in out.iterdir()} == there
+            break
+        assert made.status == 0, made.errors
         left = {path.name for path in out.iterdir()} - set(json.loads((out / "files.json").read_text()))
         assert left == {"files.json", "bars-mine.txt", "printed", "errors"}, left
 

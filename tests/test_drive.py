@@ -1,8 +1,11 @@
 """Sessions of agents with `drive`: good ones, and every bad one ends as docs/drive.md says."""
 from __future__ import annotations
 
+import copy
 import json
+import math
 import os
+import pickle
 import re
 import signal
 import subprocess
@@ -18,6 +21,7 @@ require("pandas")
 from ccp_tools import drive  # noqa: E402
 from ccp_tools import program as programs  # noqa: E402
 from ccp_tools.drive import Agent, Change, Create, Fault, Refused, Report, Session, Update  # noqa: E402
+from ccp_tools.drive.session import PROBE  # noqa: E402
 from ccp_tools.errors import CcpError  # noqa: E402
 from ccp_tools.reference import wire  # noqa: E402
 
@@ -84,15 +88,15 @@ def test_a_run_as_a_loop(driver: Path) -> None:
     assert seen == [what + " c%d" % at for at in range(3) for what in ("Create", "Report", "Report")]
 
 
-@pytest.mark.parametrize("kind", ["dict", "path", "text of a path", "bytes"])
+@pytest.mark.parametrize("kind", ["dict", "path", "text of a path", "bytes", "text"])
 def test_forms_of_a_scenario(driver: Path, tmp_path: Path, kind: str) -> None:
     path = tmp_path / "scenario.json"
     path.write_text(EXAMPLE["scenario"], encoding="utf-8")
-    given = {"dict": SCENARIO, "path": path, "text of a path": str(path), "bytes": path.read_bytes()}[kind]
-    with session(driver, given) as run:
+    given = {"dict": SCENARIO, "path": path, "text of a path": str(path), "bytes": path.read_bytes()}.get(kind)
+    with session(driver, given or "\n" + EXAMPLE["scenario"]) as run:
         for _ in run:
             run.change("p")
-        assert run.recording.startswith(b"{") and b"\n---\n\x05\1" in run.recording
+        assert run.recording.lstrip().startswith(b"{") and b"\n---\n\x05\1" in run.recording
 
 
 def test_a_scenario_without_cases(driver: Path) -> None:
@@ -122,14 +126,46 @@ def test_wide_programs_report_by_frames_of_the_second_version(driver: Path) -> N
             run.update()
 
 
+def test_forms_of_a_scenario_that_are_none(driver: Path) -> None:
+    """No message has more of a name than its beginning and its end."""
+    for given, said in (
+        ("x" * 800_000, r"^x{98} \.\. x{98}: File name too long$"),
+        (7, "a dict, a text or the path of a file"),
+    ):
+        with pytest.raises(CcpError, match=said):
+            session(driver, given)
+    with pytest.raises(CcpError, match="can't be written as JSON: Object of type set"):
+        session(driver, {"cases": [{"name": {1}}]})
+
+
 # ---- answers that aren't sent
+
+
+def test_values_are_rounded(driver: Path) -> None:
+    """To the nearest whole number, and a half to the even one; those of numpy as those of Python."""
+    np = require("numpy")
+    sent = {4500.5: 4500, 4501.5: 4502, 4500.51: 4501, -0.5: 0, np.float32(7.25): 7, np.int64(9): 9, True: 1}
+    for value, number in sent.items():
+        with session(driver) as run:
+            run.change("p", gain=value)
+            run.update(cwnd=value, rate=np.array(number + 0.25))
+            frames = [wire.change(0, 3, [(3, 0, number)]), wire.update(0, [(4, 4, number), (4, 5, number)])]
+            assert run.recording.endswith(b"".join(frame + PROBE for frame in frames))
+            run.close()
 
 
 def test_bad_answers_are_named(driver: Path) -> None:
     wrong: Dict[str, Any] = {
-        "no program is named x: there are reno_ss": lambda run: run.change("x"),
+        "no program is named x: there are reno.ss (0), reno.ca (1), cubic.ca (2), p (3)": lambda run: run.change("x"),
+        "the program reno.ss has no control variable gain: it has cap": lambda run: run.change(0, gain=1),
+        "a program is named by its name or its number, not by a value of the type list": lambda run: run.change([3]),
         "the program p has no control variable cap: it has gain": lambda run: run.change("p", cap=1),
-        "cwnd is 1.5: a whole number is expected": lambda run: run.change("p", cwnd=1.5),
+        "cwnd is nan: a finite number is expected": lambda run: run.change("p", cwnd=math.nan),
+        "rate is -inf: a finite number is expected": lambda run: run.change("p", rate=-math.inf),
+        "cwnd is '5': a finite number is expected": lambda run: run.change("p", cwnd="5"),
+        "cwnd is 1e+300: it is from 0 to": lambda run: run.change("p", cwnd=1e300),
+        "cwnd is -0.6: it is from 0 to": lambda run: run.change("p", cwnd=-0.6),
+        "an answer is an Update, a Change or None, not 7": lambda run: run.answer(7),
         "rate is -1: it is from 0 to": lambda run: run.change("p", rate=-1),
         "gain is 18446744073709551616: it is from 0": lambda run: run.change("p", gain=2**64),
         "no program runs, so there is no control variable gain": lambda run: run.update(gain=1),
@@ -215,7 +251,7 @@ def test_frames_that_are_refused(driver: Path) -> None:
 def test_refusals_are_named(driver: Path) -> None:
     """By the next answer, where the frame came from elsewhere."""
     with session(driver) as run:
-        with pytest.raises(drive.FrameRefused, match=r"program 16: programs have numbers below 16; there are reno_ss"):
+        with pytest.raises(drive.FrameRefused, match=r"program 16: programs have numbers below 16; there are reno.ss"):
             run.change(16)
         run.send(wire.update(5))
         with pytest.raises(drive.FrameRefused, match="the frame is one of flow 5, which doesn't wait") as refused:
@@ -506,6 +542,93 @@ def test_agents_in_files(agent_file: Path, tmp_path: Path) -> None:
         drive.load_agent(tmp_path / "scenario.json")
 
 
+# what an agent does in on_report, and what is said of it
+FAILURES = {
+    "sys.exit(0)": "SystemExit: 0",
+    "sys.exit()": "SystemExit",
+    "raise GeneratorExit": "GeneratorExit",
+    "raise BaseException('x')": "BaseException: x",
+    "raise RuntimeError('two\\nlines')": "RuntimeError: two\nlines",
+    "raise RuntimeError('x' * 10**6)": "RuntimeError: %s .. %s" % ("x" * 98, "x" * 98),
+    "raise beside.Mute": "Mute: its text can't be made",
+    "raise drive.Ended(0, '', 'all is well')": "all is well: ccp drive ended with status 0",
+    "report['delivered']": "the report has no field delivered: its fields are acked",
+    "report.delivered": "AttributeError: a report has no attribute delivered: its fields are acked, as report[NAME]",
+    "json.loads('{')": "JSONDecodeError: Expecting property name enclosed in double quotes: line 1 column 2 (char 1)",
+    "Change([])": "",
+    "self.again(report)": "RecursionError: maximum recursion depth exceeded",
+}
+
+
+@pytest.mark.parametrize("line", FAILURES)
+def test_what_an_agent_raises(program: Path, agent_file: Path, line: str) -> None:
+    """It ends the run, with the innermost line of the agent's own file."""
+    text = AGENT_FILE.replace("import beside\n", "import beside, json, sys\nfrom ccp_tools import drive\n")
+    text = text.replace("        return Update", "        %s\n        return Update" % line)
+    agent_file.write_text(text + "\n    def again(self, report):\n        self.again(report)\n", encoding="utf-8")
+    beside = agent_file.with_name("beside.py")
+    mute = "class Mute(Exception):\n    def __str__(self):\n        raise SystemError\n"
+    beside.write_text(beside.read_text(encoding="utf-8") + mute, encoding="utf-8")
+    if not FAILURES[line]:
+        assert drive.run_file(agent_file, SCENARIO, program=program).recording
+        return
+    with pytest.raises(drive.AgentFailed) as failed:
+        drive.run_file(agent_file, SCENARIO, program=program, timeout=SOON)
+    place = "%s:%d" % (agent_file, 17 if "again" in line else 13)
+    assert str(failed.value).startswith("the agent failed: %s: %s" % (place, FAILURES[line]))
+    assert failed.value.status == 1 and len(str(failed.value)) < 600
+
+
+# what an agent's file has, and what is said of it before a run
+WRONG_FILES = {
+    "import sys\nsys.exit(0)": "the agent failed: FILE:2: SystemExit: 0",
+    "\nimport nowhere": "the agent failed: FILE:2: ModuleNotFoundError: No module named 'nowhere'",
+    "def f(:": "the agent failed: FILE:1: SyntaxError: invalid syntax",
+    "import beside": "the agent failed: BESIDE:3: ZeroDivisionError: division by zero",
+    "CLASS    def __init__(self): exit(0)": "the agent failed: FILE:3: SystemExit: 0",
+    "CLASS    def __init__(self, x): pass": "the agent failed: FILE: TypeError: Mine.__init__() missing 1 required",
+    "CLASS    programs = 7": "the agent's programs are 7: texts by their names are expected",
+    "CLASS    programs = {'p': 7}": "the agent's programs are {'p': 7}: texts by their names are expected",
+    "CLASS    programs = property(lambda self: exit(0))": "the agent failed: FILE:3: SystemExit: 0",
+}
+
+
+@pytest.mark.parametrize("text", WRONG_FILES)
+def test_files_that_make_no_agent(tmp_path: Path, text: str) -> None:
+    path, beside = tmp_path / "mine.py", tmp_path / "beside.py"
+    path.write_text(text.replace("CLASS", "from ccp_tools.drive import Agent\nclass Mine(Agent):\n"), encoding="utf-8")
+    beside.write_text("\n\n1 / 0\n", encoding="utf-8")
+    sys.modules.pop("beside", None)
+    with pytest.raises(CcpError) as wrong:
+        drive.load_agent(path)
+    said = WRONG_FILES[text].replace("FILE", str(path)).replace("BESIDE", str(beside))
+    assert str(wrong.value).startswith(said) and wrong.value.status == 1
+
+
+def test_answers_name_the_line_that_made_them(program: Path, agent_file: Path) -> None:
+    wrong = {
+        "Update(cwnd=float('inf'))": "FILE:12: cwnd is inf: a finite number is expected",
+        "Update(gain=1)": "FILE:12: the program mine has no control variable gain: it has none",
+        "Change('other')": "FILE:12: no program is named other: there are reno.ss",
+        "Change(9)": "FILE:12: there is no program 9: there are reno.ss",
+        "'cubic'": "FILE:11: an answer is an Update, a Change or None, not 'cubic'",
+    }
+    for text, said in wrong.items():
+        agent_file.write_text(AGENT_FILE.replace("Update(cwnd=report.cwnd + 1)", text), encoding="utf-8")
+        with pytest.raises((drive.BadAnswer, drive.FrameRefused)) as refused:
+            drive.run_file(agent_file, SCENARIO, program=program, timeout=SOON)
+        assert str(refused.value).startswith(said.replace("FILE", str(agent_file)))
+
+
+def test_reports_can_be_copied() -> None:
+    """Also with the error of a field that they don't have."""
+    report = Report(0, "a", "p", 0, 0, 2, 40000, 6000, 0, {"acked": 3000})
+    assert copy.deepcopy(report) == report == pickle.loads(pickle.dumps(report))
+    assert not hasattr(report, "lost") and report.get("lost") == 0
+    with pytest.raises(KeyError, match="^the report has no field 7: its fields are acked$"):
+        report[7]  # type: ignore[index]
+
+
 def command(driver: Path, *words: object, given: str | None = None) -> Ran:
     """A run of `python3 -m ccp_tools.drive`."""
     return ran([sys.executable, "-m", "ccp_tools.drive", *words, "--ccp", driver], given)
@@ -540,12 +663,62 @@ def test_the_command_names_what_is_wrong(driver: Path, agent_file: Path, tmp_pat
     refused = command(driver, agent_file, scenario)
     assert refused.status == 3 and refused.errors.endswith("ccp: input refused: missing cases\n")
     scenario.write_text(json.dumps(SCENARIO), encoding="utf-8")
-    agent_file.write_text(AGENT_FILE.replace("+ 1)", "/ 2)"), encoding="utf-8")
+    agent_file.write_text(AGENT_FILE.replace("+ 1)", "* float('nan'))"), encoding="utf-8")
     wrong = command(driver, agent_file, scenario)
-    assert wrong.status == 1 and wrong.errors == "drive: cwnd is 3500.0: a whole number is expected\n"
+    assert wrong.status == 1 and wrong.errors == "drive: %s:12: cwnd is nan: a finite number is expected\n" % agent_file
     agent_file.write_text(AGENT_FILE.replace("+ 1)", "/ 0)"), encoding="utf-8")
     failed = command(driver, agent_file, scenario)
     assert (
         failed.status == 1
         and failed.errors == "drive: the agent failed: %s:12: ZeroDivisionError: division by zero\n" % (agent_file)
     )
+
+
+# agents that end or break the process that they run in, with the status and the line of each
+BREAKERS = {
+    "sys.exit(0)": (1, "drive: the agent failed: FILE:13: SystemExit: 0\n"),
+    "sys.exit('bye')": (1, "drive: the agent failed: FILE:13: SystemExit: bye\n"),
+    "self.is_closed = hasattr(self, 'is_closed') or os.close(1)": (
+        1,
+        "drive: the output can't be written: Bad file descriptor\n",
+    ),
+    "os.closerange(3, 99)": (1, "drive: the pipes to ccp drive failed: Bad file descriptor\n"),
+    "sys.stdout.close()": (1, "drive: the output can't be written: the agent has closed it\n"),
+    "raise KeyboardInterrupt": (130, ""),
+}
+
+
+@pytest.mark.parametrize("line", BREAKERS)
+def test_agents_that_break_their_process(program: Path, agent_file: Path, tmp_path: Path, line: str) -> None:
+    text = AGENT_FILE.replace("import beside\n", "import beside, os, sys\n")
+    text = text.replace("    def on_report(self, report):\n", "    def on_report(self, report):\n\n        %s\n" % line)
+    agent_file.write_text(text, encoding="utf-8")
+    status, said = BREAKERS[line]
+    made = command(program, agent_file, tmp_path / "scenario.json")
+    assert made == ("", said.replace("FILE", str(agent_file)), status)
+
+
+def test_an_agent_that_takes_the_output_away(program: Path, agent_file: Path, tmp_path: Path) -> None:
+    text = AGENT_FILE.replace("import beside\n", "import beside, sys\nsys.stdout = None\n")
+    agent_file.write_text(text, encoding="utf-8")
+    made = command(program, agent_file, tmp_path / "scenario.json")
+    assert made.status == 0 and made.output.startswith("case agent "), made.errors
+
+
+def test_options_of_the_command(program: Path, agent_file: Path, tmp_path: Path) -> None:
+    scenario = tmp_path / "scenario.json"
+    for text in ("nan", "inf", "1e308", "-1", "0", "x"):
+        made = command(program, agent_file, scenario, "--timeout", text)
+        said = "drive: argument --timeout: %s isn't a number of seconds above 0 and at most 2000000\n" % text
+        assert (made.status, made.errors) == (2, said)
+    for record in ("/dev/full", str(tmp_path)):
+        made = command(program, agent_file, scenario, "--record", record)
+        reason = "it is a folder, and a file is expected" if record != "/dev/full" else "No space left on device"
+        assert (made.status, made.errors) == (1, "drive: %s: %s\n" % (record, reason))
+    kept = scenario.read_bytes()
+    made = command(program, agent_file, scenario, "--record", scenario)
+    assert made.status == 2 and "the recording would overwrite what the run reads" in made.errors
+    assert scenario.read_bytes() == kept
+    for seconds in (math.nan, 0, -1.0):
+        with pytest.raises(CcpError, match="the timeout is"):
+            session(program, timeout=seconds)

@@ -12,7 +12,7 @@ from support import ran, require
 
 np = require("numpy")
 require("pandas")
-from ccp_tools.drive import Change, Env, Report  # noqa: E402
+from ccp_tools.drive import BadAnswer, Change, Env, Report  # noqa: E402
 from ccp_tools.drive.messages import CREATE_FORM, HEAD, measure_form  # noqa: E402
 from ccp_tools.drive.pipes import Pipes  # noqa: E402
 from ccp_tools.errors import CcpError  # noqa: E402
@@ -59,7 +59,7 @@ def test_an_episode(driver: Path) -> None:
         seen = []
         truncated = False
         while not truncated:
-            observation, reward, terminated, truncated, info = made.step([9000.7])
+            observation, reward, terminated, truncated, info = made.step([9000.5])
             seen.append((observation[2], reward))
             assert not terminated and observation.shape == made.observation_space.shape
         assert len(seen) == 10 and seen[0][0] == 9000 and seen[-1] == (9000, 0.0) and info["report"].end == 20
@@ -95,13 +95,26 @@ def test_actions_are_held_between_their_bounds(driver: Path) -> None:
     with env(driver, act=act, observe=("cwnd", "rate")) as made:
         made.reset()
         assert made.step([1e9, 0, 77])[0].tolist() == [6000, 77] and made.step([-5, 9, 1e30])[0][0] == 3000
-        with pytest.raises(CcpError, match="an action has 3 numbers: cwnd, gain, rate"):
-            made.step([1])
+        for action in ([1], 7):
+            with pytest.raises(CcpError, match="an action has 3 numbers: cwnd, gain, rate"):
+                made.step(action)
+        for value in (np.nan, np.inf, -np.inf):
+            with pytest.raises(BadAnswer, match="gain is -?(nan|inf): a finite number is expected"):
+                made.step([3000, value, 0])
         space = made.action_space
         assert space.shape == (3,) and space.low.tolist() == [3000, 1, 0] and str(space.dtype) == "float64"
         assert space.contains([4000, 1, 0]) and not space.contains([2000, 1, 0]) and not space.contains([1])
         assert space.contains(space.sample(np.random.default_rng(1)))
         assert not made.observation_space.contains([-1, 0])
+
+
+def test_bounds_of_actions(driver: Path) -> None:
+    for bounds, said in (
+        ((6, 3), "the least cwnd is 6, above the greatest, 3"),
+        ((0, np.inf), "the greatest cwnd is inf"),
+    ):
+        with pytest.raises(BadAnswer, match=said):
+            env(driver, act={"cwnd": bounds})
 
 
 def test_a_fault_starts_the_program_again(driver: Path) -> None:

@@ -322,11 +322,15 @@ def test_a_sum_of_a_name_that_begins_as_infinity() -> None:
     name = before.replace("true", "(> x 9)", 1).replace("\n(when true", "\n%s(when (> x 9)")
     named = (program % "").replace("(def ", "(def (x 0) ").replace("(when true", name)
     assert texts_of(named % "") == texts_of(named % "(when (> x 9) (:= y x) (:= Rate y) (fallthrough))\n") == []
-    for between in ("(when true (:= x 10) (fallthrough))\n", "(when (< x 9) (:= x (if Flow.was_timeout 10)))\n"):
+    falls = "(when (< x 9) (:= x (if Flow.was_timeout 10)) (fallthrough))\n"
+    for between in ("(when true (:= x 10) (fallthrough))\n", falls):
         assert len(texts_of(named % between)) == 1, between
+    # after a block that doesn't fall through no other one runs
+    assert texts_of(named % falls.replace(" (fallthrough)", "")) == []
     assert len(texts_of((named % "").replace("(fallthrough)", "(:= x 10) (fallthrough)"))) == 1
     infinite = "(when Flow.was_timeout (:= Report.least +infinity) (fallthrough))\n"
     assert len(texts_of(named % infinite)) == 1
+    assert texts_of(named % infinite.replace(" (fallthrough)", "")) == []
     blended = "(def (Report (mean +infinity)))\n(when true (:= Report.mean (ewma 8 Cwnd)) (:= Cwnd 1) (report))"
     assert "`ewma` multiplies it" in texts_of(blended)[0]
     assert texts_of((program % "").replace("(+ Report.least 1)", "(+ Report.least 0)")) == []

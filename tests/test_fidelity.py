@@ -2,7 +2,11 @@
 changes, its limits, and the pages that are made of its figures."""
 from __future__ import annotations
 
+import random
+import subprocess
 import sys
+from importlib.machinery import SourceFileLoader
+from importlib.util import module_from_spec, spec_from_loader
 
 import pytest
 from support import REPOSITORY, needs, require
@@ -13,12 +17,31 @@ pd = require("pandas")
 sys.path.insert(0, str(REPOSITORY / "bench"))
 from ccp_tools.errors import CcpError  # noqa: E402
 from ccp_tools.metrics import Link, figures_of_acks  # noqa: E402
-from fidelity import cases, chance, kernel, limits, logs, model, pages, results, sections, shares, spread  # noqa: E402
+from fidelity import (  # noqa: E402
+    cases,
+    chance,
+    kernel,
+    limits,
+    links,
+    logs,
+    model,
+    pages,
+    results,
+    sections,
+    shares,
+    spread,
+)  # noqa: E402
 
 FOLDER = REPOSITORY / "bench" / "fidelity"
 KEPT = FOLDER / "results.csv"
 PAGES = ["fidelity.md", "senders.md"]
 CASE = cases.Case("fixed", 2, 20, "reno", segments=3)
+# limits that don't hold, by their sender and cell
+MISSED = [
+    ("linux-cubic", "fixed", 50, 80),
+    ("linux-cubic", "train", 100, 80),
+    ("reno", "fixed", 250, 80),
+]
 # three segments; the second is lost and sent again, and the first is served a second time
 LOG = "0 100 1000\n10 200 -1\n1000 300 0\n21000 200 500\n22000 100 0\n23000 400 0\n"
 
@@ -86,6 +109,8 @@ def test_scenario_of_the_model():
     assert [case["sender"] for case in made["cases"]] == ["reno", "linux-reno", "cubic", "linux-cubic"] * 2
     assert set(made["traces"]) == {"fixed", "wave"} and made["cases"][0]["losses"] == [3, 4]
     assert len({case["name"] for case in made["cases"]}) == 8 and made["programs"]
+    # the time of a host is a part of the delay
+    assert {case["delay_us"] for case in made["cases"]} == {20_050} and CASE.model_case("x")["delay_us"] == 20_050
 
 
 def test_traces_by_name_and_by_file(tmp_path):
@@ -213,6 +238,40 @@ def test_limit_of_order():
     assert not found[name, "reno and cubic"] and found[name, "linux-reno and linux-cubic"]
 
 
+def test_limit_of_losses_on_fixed():
+    """Beside the range of the runs: 10 % below its lower end, or above its upper one."""
+    name = "CUBIC's losses on `fixed` within 10 % of the range", "linux-cubic"
+    for lost, holds in ((9.1, True), (8, False), (21, True), (23, False), (15, True)):
+        runs = [{**row("linux", "cubic", lost=one), "run": at} for at, one in enumerate((10, 20), 1)]
+        assert found_of(row("ccp", "linux-cubic", lost=lost), *runs)[name] == holds
+    assert limits.distance_of(0, 0, 0) == 0 and limits.distance_of(1, 0, 0) == float("inf")
+
+
+def test_limit_of_throughput_on_train():
+    cell = ("train", 100, 20)
+    name = "throughput on `train` within 3 % of the range"
+    for mbps, holds in ((10.2, True), (10.4, False), (9.8, True), (9.6, False)):
+        some = [row("ccp", "linux-reno", cell, throughput_mbps=mbps), row("linux", "reno", cell)]
+        assert found_of(*some)[name, "linux-reno"] == holds
+    assert not any("train" in limit for limit, _ in found_of(row("ccp", "linux-reno"), row("linux", "reno")))
+
+
+def test_limits_of_losses_by_chance():
+    """Throughput within 5 %, and a lead of the same sign within 4 points."""
+
+    def holds(reno, cubic):
+        rows = [row("linux", "reno", throughput_mbps=10), row("linux", "cubic", throughput_mbps=9.5)]
+        rows += [row("ccp", "linux-reno", throughput_mbps=reno), row("ccp", "linux-cubic", throughput_mbps=cubic)]
+        frame = pd.DataFrame([{**one, "rate": 0.02, "seed": 1} for one in rows])
+        found = list(chance.findings(frame, "linux"))
+        assert {one.cell for one in found} == {("2 % lost", 100, 20)}
+        return [one.holds for one in found]
+
+    assert holds(10, 9.5) == [True, True, True]
+    assert holds(10.6, 9.5) == [False, True, False]
+    assert holds(10, 10.1) == [True, False, False]
+
+
 def test_medians_and_ranges():
     frame = pd.DataFrame([{**row("linux", "reno", lost=lost), "run": at} for at, lost in enumerate((5, 90, 7))])
     figures = limits.Figures(frame)
@@ -254,7 +313,7 @@ def test_kept_figures_are_whole():
         ("linux", ["reno", "cubic"], 3),
     ):
         counts = frame[frame["stack"] == stack].groupby(["sender", "trace", "queue", "delay_ms"]).size()
-        assert set(counts.index.get_level_values(0)) == set(senders) and (counts == runs).all()
+        assert set(counts.index.get_level_values(0)) == set(senders) and (counts >= runs).all()
         assert len(counts) == 18 * len(senders)
 
 
@@ -269,6 +328,86 @@ def test_other_kept_figures_are_whole():
     assert abs(shared[shared["stack"] == "linux"]["share_mean"].sum() - 3 * 6) < 1e-3
     changes = results.read(FOLDER / "spread.csv", spread.COLUMNS)
     assert len(changes) == 18 * 6 and (changes["runs"] == 35).all()
+
+
+def test_what_the_kept_figures_miss():
+    """The limits that are known not to hold, which docs/fidelity.md explains; a new one fails here and in the bench."""
+    missed = [(one.sender, *one.cell) for one in sections.kept_in(FOLDER).found if not one.holds]
+    assert sorted(missed) == MISSED
+    text = (REPOSITORY / "docs" / "fidelity.md").read_text(encoding="utf-8")
+    assert all("%s, %d packets, %d ms" % place[1:] in text for place in MISSED)
+
+
+def test_the_bench_fails_with_a_line_for_each_miss():
+    words = [sys.executable, str(FOLDER / "run"), "--kept", str(FOLDER)]
+    ran = subprocess.run(words, stdout=subprocess.PIPE, stderr=subprocess.PIPE, text=True, encoding="utf-8")
+    lines = [line for line in ran.stderr.splitlines() if line.startswith("fidelity: missed: ")]
+    assert ran.returncode == 1 and len(lines) == len(MISSED), ran.stderr
+
+
+# ---- found links
+
+
+def test_the_trace_of_pieces():
+    link = links.Found("x", links.pieces_of("4x2 3x0 2x2"), 10, 20)
+    assert link.trace == "2\n4\n8\n9\n" and links.text_of(link.pieces) == "4x2 3x0 2x2"
+
+
+def test_packets_that_a_link_served(tmp_path):
+    log = tmp_path / "x.log"
+    # one is lost, and one is served after the end
+    log.write_text("0 100 1000\n10 200 -1\n3999000 300 1000\n3999000 400 1001\n")
+    assert links.in_log(log) == 2
+    with pytest.raises(CcpError, match="ended early: oh"):
+        links.late_in("oh", links.read()[0])
+
+
+def test_limit_of_found_links():
+    """Linux decides where it was measured, else ns-3."""
+    link = links.Found("x", ((10, 10),), 10, 20)
+
+    def found(*rows):
+        some = [["x", "reno", stack, "v", run, packets, None] for run, (stack, packets) in enumerate(rows)]
+        return [(one.value, one.holds) for one in links.findings([link], pd.DataFrame(some, columns=links.COLUMNS))]
+
+    assert found(("ccp", 119), ("ns-3", 100)) == [("119 beside 100, +19.0 %", True)]
+    runs = ("linux", 200), ("linux", 210), ("linux", 220)
+    assert found(("ccp", 119), ("ns-3", 100), *runs) == [("119 beside 210, -43.3 %", False)]
+    assert found(("ccp", 119)) == []
+    frame = pd.DataFrame(
+        [["x", "reno", "linux", "v", at, n, 1.0] for at, n in enumerate((5, 7, 9))], columns=links.COLUMNS
+    )
+    assert links.served_table([link], frame).splitlines()[2] == "| x | 10x10 | 10 | 20 | reno | - | - | 7 (5 to 9) |"
+
+
+def test_kept_links_are_whole():
+    some, served = links.read(), links.read_served()
+    assert len(some) >= 16 and len({link.name for link in some}) == len(some)
+    counts = served.groupby(["link", "algorithm", "stack"]).size()
+    assert len(counts) == len(some) * 2 * 3 and set(counts[:, :, "ccp"]) == {1}
+
+
+@pytest.mark.parametrize("algorithm", cases.ALGORITHMS)
+def test_what_the_program_serves_on_found_links(program, tmp_path, algorithm):
+    """The links for which `linux-cubic` of version 1.0 was far from the kernel."""
+    some = [link for link in links.read() if link.name in ("bursts-60", "gap-32", "short-queue")]
+    wanted = [links.packets_of(links.read_served(), "ccp", link.name, algorithm) for link in some]
+    assert list(links.of_model(some, algorithm, tmp_path, program)) == wanted
+
+
+def test_a_search_draws_links_of_its_class():
+    loader = SourceFileLoader("search", str(FOLDER / "search"))
+    search = module_from_spec(spec_from_loader("search", loader))
+    loader.exec_module(search)
+    first, second = (search.drawn(random.Random(7), "x") for _ in range(2))
+    assert first == second != search.drawn(random.Random(8), "x")
+    for seed in range(20):
+        link = search.drawn(random.Random(seed), "x")
+        mean = sum(chances for _, chances in link.pieces) / sum(length for length, _ in link.pieces)
+        assert search.longest_gap(link) <= 100 and 0.9 < mean < 1.1 and 20 <= link.queue <= 250
+
+
+# ---- pages
 
 
 @pytest.mark.parametrize("name", PAGES)

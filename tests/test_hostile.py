@@ -3,22 +3,28 @@ from __future__ import annotations
 
 import json
 import os
+import runpy
 import shutil
+import signal
 import subprocess
 import sys
+from importlib import import_module
 from pathlib import Path
-from typing import Dict, List
+from typing import Any, Dict, List
 
 import pytest
 from inside import run_inside
-from support import EXAMPLES, REPOSITORY, ccp, command
+from support import EXAMPLES, REPOSITORY, ccp, command, ran
 
 from ccp_tools.cli import main
 from ccp_tools.errors import CcpError
 from ccp_tools.files import read_bytes
-from ccp_tools.tables import COMMANDS
+from ccp_tools.tables import COMMANDS, MODES
 
 FIXED = str(EXAMPLES / "traces" / "fixed.trace")
+HUNT = ["--for", "losses", "--links", "2"]
+TUNE = ["--numbers", "low=1..2,high=2..4", "--trials", "6", "--seconds", "0.5", "--out", "OUT", "--over"]
+HELD_OUT = ["--held-out", str(EXAMPLES / "traces" / "wave.trace")]
 # the arguments of a command that reads FILE; OUT is a folder that may be written
 ARGUMENTS = {
     "compare": [
@@ -33,6 +39,13 @@ ARGUMENTS = {
     "table": [["FILE"]],
     "verify": [["FILE", "FILE"], [str(EXAMPLES / "live.json"), "FILE"]],
     "over": [["FILE"]],
+    "hunt": [
+        ["mine=FILE", *HUNT],
+        ["FILE", *HUNT],
+        ["reno", *HUNT, "--trace", "FILE"],
+        ["reno", *HUNT, "--against", "FILE"],
+    ],
+    "tune": [["FILE", *TUNE, FIXED], [str(EXAMPLES / "delay.portus"), *TUNE, "FILE"]],
 }
 CASES = [(name, words) for name, lists in ARGUMENTS.items() for words in lists]
 CONTENTS = {
@@ -99,8 +112,8 @@ def test_a_folder_and_no_file(
 
 @pytest.mark.parametrize("name, words", CASES)
 def test_no_input(program: Path, tmp_path: Path, name: str, words: List[str]) -> None:
-    ran = command(name, *words_of(words, Path("-"), tmp_path), timeout=120)
-    check_end(name, ran.status, ran.output, ran.errors)
+    made = command(name, *words_of(words, Path("-"), tmp_path), timeout=120)
+    check_end(name, made.status, made.output, made.errors)
 
 
 @pytest.mark.parametrize("name", COMMANDS)
@@ -139,6 +152,18 @@ WORK = {
     "table": ["TABLE"],
     "verify": ["SCENARIO", "TIMELINE"],
     "over": ["--quiet", "SCENARIO"],
+    "hunt": [str(EXAMPLES / "delay.portus"), "--assert", "loss_rate<=1", "--links", "3", "--quiet"],
+    "tune": [
+        str(EXAMPLES / "delay.portus"),
+        "--goal",
+        "wait",
+        "--floor",
+        "utilization>=0.1",
+        "--quiet",
+        *TUNE,
+        FIXED,
+        *HELD_OUT,
+    ],
 }
 
 
@@ -178,6 +203,53 @@ def test_a_file_without_an_end() -> None:
     assert read_bytes("/dev/null") == b""
 
 
+@pytest.mark.parametrize("words", [["trace", "info", FIXED], ["table", "--help"], []], ids=str)
+@pytest.mark.parametrize("stream, reason", [(">&-", "Bad file descriptor"), (">/dev/full", "No space left on device")])
+def test_an_output_that_cannot_be_written(words: List[str], stream: str, reason: str) -> None:
+    """It is named in one line, and the status isn't 0."""
+    started = [sys.executable, "-m", "ccp_tools", *words]
+    made = ran(["bash", "-c", '"$@" ' + stream, "bash", *started])
+    name = " ".join(["ccp", *words[:1]])
+    assert made == ("", "%s: the output can't be written: %s\n" % (name, reason), 1)
+
+
+def test_an_error_that_cannot_be_written() -> None:
+    made = ran(["bash", "-c", '"$@" 2>/dev/full', "bash", sys.executable, "-m", "ccp_tools", "table", "none"])
+    assert made == ("", "", 1)
+
+
+def test_names_in_messages(capsys: pytest.CaptureFixture[str]) -> None:
+    """A message is one line, without the control characters of a name, and with its beginning and end."""
+    for name, said in (
+        ("a\nb\x1b[31m\r\x07", "a b\\x1b[31m \\x07: No such file or directory"),
+        ("\u20ac" * 3000, "\u20ac" * 32 + " .. " + "\u20ac" * 32 + ": File name too long"),
+        ("x " * 300, "x " * 49 + " .. " + "x " * 49 + ": File name too long"),
+    ):
+        assert main(["table", name]) == 1
+        assert capsys.readouterr().err == "ccp table: %s\n" % said
+
+
+def test_the_bench_of_failures_has_each_scenario_and_mode(program: Path) -> None:
+    """bench/hostile, which isn't a part of the gate, leaves out no example and no mode that reads an input."""
+    bench = runpy.run_path(str(REPOSITORY / "bench" / "hostile"))
+    scenarios = {path.stem for path in EXAMPLES.glob("*.json")} - {"scenario.schema"}
+    assert set(bench["MODES"]) == scenarios
+    assert {example.mode for example in bench["examples"](str(program))} == set(MODES)
+
+
+def test_an_interrupt_while_a_command_is_imported(monkeypatch: pytest.MonkeyPatch) -> None:
+    """It waits until all is imported: libraries make other errors of it."""
+    done = []
+
+    def imported(*names: str) -> Any:
+        signal.raise_signal(signal.SIGINT)
+        done.append(names)
+        return import_module(*names)
+
+    monkeypatch.setattr("ccp_tools.cli.import_module", imported)
+    assert main(["table", "none"]) == 130 and done == [(".table", "ccp_tools")]
+
+
 def test_closed_streams() -> None:
     env = {**os.environ, "PYTHONPATH": str(REPOSITORY / "src")}
     for closed in ("<&-", ">&-", "2>&-", "<&- >&- 2>&-"):
@@ -215,19 +287,40 @@ WRONG_MEMBERS = [
     ('"delay_us"', '"delay"', "cases[0].delay_us"),
     ('"agent": "reno"', '"agent": "reno", "sender": 5', "cases[0].sender"),
     ('"10\\n"', "[10]", "traces"),
+    ('"mss": 1448, ', "", "cases[0].mss"),
+    ('"mss": 1448', '"mss": 1448, "losses": {"1": 2}', "cases[0].losses"),
+    ('"mss": 1448', '"mss": 1448, "start_us": "x"', "cases[0].start_us"),
+    ('"cases": [', '"shared": {"trace": "t", "rounds": 5, "quantum_us": {}}, "cases": [', "shared.quantum_us"),
+    ('"cases": [', '"shared": {"rounds": 5, "quantum_us": 5}, "cases": [', "shared.trace"),
+    ('"cases": [', '"shared": [1], "cases": [', "shared"),
 ]
+
+
+CASE = dict(name="a", trace="t", mss=1448, queue=10, delay_us=20000, timeout_us=1000000, acks=9, agent="reno")
+RIGHT = json.dumps({"version": 1, "traces": {"t": "10\n"}, "cases": [CASE]})
+SHARED_TRACE = ('"cases": [', '"shared": {"trace": "u", "rounds": 5, "quantum_us": 5}, "cases": [', "shared")
 
 
 @pytest.mark.parametrize("old, new, member", WRONG_MEMBERS)
 def test_texts_beside_a_scenario_that_ccp_refuses(tmp_path: Path, old: str, new: str, member: str) -> None:
     """Figures and plots name the member that is wrong."""
-    case = dict(name="a", trace="t", mss=1448, queue=10, delay_us=20000, timeout_us=1000000, acks=9, agent="reno")
-    right = json.dumps({"version": 1, "traces": {"t": "10\n"}, "cases": [case]})
-    assert old in right
+    assert old in RIGHT
     scenario, timeline = tmp_path / "scenario.json", tmp_path / "timeline.txt"
-    timeline.write_text(ccp("timeline", given=right).output)
-    scenario.write_text(right.replace(old, new))
+    timeline.write_text(ccp("timeline", given=RIGHT).output)
+    scenario.write_text(RIGHT.replace(old, new))
     for words in (["metrics", scenario, timeline], ["plot", "flows", "--scenario", scenario, timeline, "x.svg"]):
         made = run_inside(*words)
         assert made.status == 1 and made.output == "", made
         assert ": no scenario of ccp: %s is missing or of another kind\n" % member in made.errors
+
+
+@pytest.mark.parametrize("old, new, place", [('"trace": "t"', '"trace": "u"', "cases[0]"), SHARED_TRACE])
+def test_a_trace_that_the_scenario_lacks(tmp_path: Path, old: str, new: str, place: str) -> None:
+    scenario, timeline = tmp_path / "scenario.json", tmp_path / "timeline.txt"
+    timeline.write_text(ccp("timeline", given=RIGHT).output)
+    assert old in RIGHT
+    scenario.write_text(RIGHT.replace(old, new))
+    for words in (["metrics", scenario, timeline], ["plot", "flows", "--scenario", scenario, timeline, "x.svg"]):
+        made = run_inside(*words)
+        said = "%s: no scenario of ccp: %s.trace names u, and the scenario has no such trace\n" % (scenario, place)
+        assert made.status == 1 and made.output == "" and made.errors.endswith(said), made

@@ -7,13 +7,14 @@ from pathlib import Path
 
 import pytest
 from inside import run_inside
-from support import TRACES, needs, require
+from support import TRACES, needs, require, three_digits
 
 pytestmark = needs("import matplotlib", "import pandas", "import jinja2")
 require("matplotlib")
 
 from ccp_tools.compare import measured  # noqa: E402
 from ccp_tools.metrics import Window  # noqa: E402
+from ccp_tools.traces import read_trace  # noqa: E402
 
 DATA = Path(__file__).parent / "data"
 LOG = DATA / "mm-link.log"
@@ -39,13 +40,13 @@ def figures_of_log() -> list[str]:
     waits = sorted(int(words[3]) for words in left)
     ranks = [waits[-(-len(waits) * share // 100) - 1] for share in (50, 95, 99)]
     return [
-        "%.2f" % (8 * 1504 * len(left) / (last - first) / 1000),
-        "%.1f" % (100 * len(left) / len(chances)),
-        "%.2f" % (100 * (1 - len(left) / len(came))),
-        "%.1f" % (sum(waits) / len(waits)),
-        *("%.1f" % wait for wait in ranks),
+        three_digits(8 * 1504 * len(left) / (last - first) / 1000, 2),
+        three_digits(100 * len(left) / len(chances), 1),
+        three_digits(100 * (1 - len(left) / len(came)), 2),
+        three_digits(sum(waits) / len(waits), 1),
+        *(three_digits(wait, 1) for wait in ranks),
         "none",
-        "%.2f" % ((last - first) / 1000),
+        three_digits((last - first) / 1000, 2),
     ]
 
 
@@ -65,18 +66,18 @@ def test_a_real_sender_beside_the_simulated_ones(link: Path, program: Path, tmp_
 
 
 def test_the_trace_of_a_log(link: Path) -> None:
-    times, other = link.read_text(), TRACES[0].read_text()
+    times, other = read_trace(link), read_trace(TRACES[0])
     windows = {"other": Window(), "link": Window(0, 100_000)}
-    found = measured.read([("real", str(LOG))], {"traces": {"other": other, "link": times}}, windows)
+    found = measured.read([("real", str(LOG))], {"other": other, "link": times}, windows)
     assert found[0].trace == "link" and found[0].found.packets == 45
     assert found[0].doubts() == ""
-    longer = measured.read([("real", str(LOG))], {"traces": {"link": times}}, {"link": Window(0, 15_000_000)})
+    longer = measured.read([("real", str(LOG))], {"link": times}, {"link": Window(0, 15_000_000)})
     wanted = "its log has 0.484 s of packets, and the simulated senders are measured over 15 s"
     assert longer[0].doubts() == wanted == measured.rows_of(longer, ["trace", "sender"])[0].doubts
-    two = {"traces": {"other": other, "another": "5\n"}}
+    two = {"other": other, "another": [5]}
     assert measured.read([("real", str(LOG))], two, windows)[0].trace == ""
     # a tunnel's log has delays of the whole way, and no chances: it belongs to the only trace
-    tunnel = measured.read([("x", str(DATA / "pantheon.log"))], {"traces": {"other": other}}, windows)
+    tunnel = measured.read([("x", str(DATA / "pantheon.log"))], {"other": other}, windows)
     assert tunnel[0].trace == "other" and "its delays are of the whole way" in measured.notes_of(tunnel)[0]
     assert measured.rows_of(tunnel, ["trace", "sender"])[0].values["queueing_p95_ms"] == (None, None)
 

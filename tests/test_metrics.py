@@ -9,11 +9,12 @@ from pathlib import Path
 
 import pytest
 from inside import run_inside
-from support import command, needs, require, table_text
+from support import EXAMPLES, command, needs, require, table_text
 
 pytestmark = needs("import pandas", "import scipy")
 pd = require("pandas")
 
+import ccp_tools  # noqa: E402
 from ccp_tools import frames, metrics, texts  # noqa: E402
 from ccp_tools.errors import BadText, CcpError  # noqa: E402
 from ccp_tools.metrics import Window  # noqa: E402
@@ -229,3 +230,14 @@ def test_groups_of_all_figures_warn_of_nothing():
     assert len(made) == 1 and made["n"][0] == 3 and list(made)[:3] == ["trace", "mark", "n"]
     for name in metrics.METRICS:
         assert [made[name + kind][0] for kind in ("_n", "_mean", "_sd")] == [3, 2, 1], name
+
+
+def test_forms_of_a_scenario(program: Path, tmp_path: Path) -> None:
+    """The members, the text and the path of a file are one scenario for each function of the package."""
+    path = EXAMPLES / "live.json"
+    text = path.read_text(encoding="utf-8")
+    frames = [ccp_tools.figures(given) for given in (json.loads(text), text, text.encode(), path, str(path))]
+    assert all(frame.equals(frames[0]) for frame in frames) and len(frames[0]) == len(json.loads(text)["cases"])
+    assert ccp_tools.run_campaign(path).equals(ccp_tools.run_campaign(text))
+    with pytest.raises(CcpError, match="a scenario is a dict, a text or the path of a file, not int"):
+        ccp_tools.timeline(7)  # type: ignore[arg-type]

@@ -32,6 +32,7 @@ def compared(driver: Path, tmp_path_factory: pytest.TempPathFactory) -> Path:
     made = compare(driver, folder, "reno,mine=%s,delay=%s" % (AIMD, DELAY), "--shared")
     assert made.status == 0, made.errors
     (folder / "printed").write_text(made.output, encoding="utf-8")
+    (folder / "errors").write_text(made.errors, encoding="utf-8")
     return folder
 
 
@@ -97,9 +98,15 @@ def test_the_report_names_it(compared: Path) -> None:
 
 
 def test_the_same_again(driver: Path, compared: Path, tmp_path: Path) -> None:
-    """By compare.toml: the same recordings and figures."""
+    """By compare.toml, which has to be trusted, as it and a line say: the same recordings and figures."""
+    assert "runs its agents outside again, which takes --trust\n" in (compared / "errors").read_text(encoding="utf-8")
+    first = (compared / "compare.toml").read_text(encoding="utf-8").splitlines()[0]
+    assert first == "# ccp compare compare.toml --trust --out DIR"
     again = tmp_path / "again"
-    made = command("compare", compared / "compare.toml", "--ccp", driver, "--out", again, "--quiet")
+    words = [compared / "compare.toml", "--ccp", driver, "--out", again, "--quiet"]
+    made = command("compare", *words)
+    assert made.status == 1 and "compare.toml: senders: it runs %s: --trust accepts that" % AIMD in made.errors
+    made = command("compare", *words, "--trust")
     assert made.status == 0, made.errors
     for path in [*recordings(compared), compared / "metrics.csv", compared / "timeline.txt"]:
         assert (again / path.name).read_bytes() == path.read_bytes(), path.name
@@ -144,8 +151,11 @@ def test_agents_outside_that_are_wrong(driver: Path, tmp_path: Path) -> None:
     agent = tmp_path / "bad.py"
     wrong: Dict[str, str] = {
         "x = 1": "the sender bad: %s: it has no class of the kind Agent" % agent,
-        "import nowhere": "the sender bad: %s: ModuleNotFoundError: No module named 'nowhere'" % agent,
+        "import nowhere": "the sender bad: the agent failed: %s:1: ModuleNotFoundError: No module named 'nowhere'"
+        % agent,
+        "import sys; sys.exit(0)": "the sender bad: the agent failed: %s:1: SystemExit: 0" % agent,
         AGENT % REPORTS: "the sender bad: the agent failed: %s:11: ZeroDivisionError: " % agent,
+        (AGENT % REPORTS).replace("1 //", "exit(0) //"): "the agent failed: %s:11: SystemExit: 0" % agent,
         AGENT % "(def)(when x (report))": "ccp: input refused: program bad Unknown at 1:12",
     }
     for text, said in wrong.items():

@@ -154,7 +154,128 @@ def test_metrics_are_worked_out_in_the_parts(tmp_path: Path, program: Path) -> N
     assert wanted.output.count("\n") == 5
 
 
+# ---- words of the user
+
+# names that GNU parallel, a shell, or both would take for more than names
+NAMES = ["{= qx(touch RAN) =} {#}{}{.}{%} x", "a b;touch RAN;'c\" $(touch RAN)\n`touch RAN` \\"]
+STUB = """echo "$*" >> "%s/asked"
+while [ $# -gt 0 ]; do case $1 in -o | -l | -p) shift 2 ;; -*) shift ;; *) break ;; esac; done
+shift; [ "$1" != -- ] || shift
+cd "%s" && exec sh -c "$*"
+"""
+
+
+def place_of(folder: Path, name: str, program: Path) -> Path:
+    """The program in a folder of this name."""
+    (folder / name).mkdir()
+    return script(folder / name, "ccp", 'exec "%s" "$@"\n' % program)
+
+
+@needs("parallel")
+@pytest.mark.parametrize("name", NAMES)
+def test_a_path_is_data(tmp_path: Path, program: Path, monkeypatch: pytest.MonkeyPatch, name: str) -> None:
+    """Of the program and of the parts: nothing of it runs, or is replaced."""
+    monkeypatch.chdir(tmp_path)
+    path = saved(tmp_path, grid({"fixed": TEXTS["fixed"]}, [10], 60))
+    found = place_of(tmp_path, name, program)
+    ran = over("--quiet", "--ccp", found, "--parts", found.parent / "parts", path)
+    assert (ran.status, ran.output) == (0, ccp("campaign", given=path.read_text()).output), ran.errors
+    assert not list(tmp_path.rglob("RAN*"))
+
+
+@needs("parallel", "rsync")
+def test_a_path_is_data_on_machines(tmp_path: Path, program: Path, monkeypatch: pytest.MonkeyPatch) -> None:
+    """With a stand-in for ssh, which runs all here, on two machines and this one. TMPDIR is a path too."""
+    path = saved(tmp_path, grid({"fixed": TEXTS["fixed"]}, [10, 20], 60))
+    found = place_of(tmp_path, "".join(NAMES), program)
+    monkeypatch.setattr("tempfile.tempdir", str(found.parent))
+    monkeypatch.setenv("TMPDIR", str(found.parent))
+    (tmp_path / "bin").mkdir()
+    ssh = script(tmp_path / "bin", "ssh", STUB % (tmp_path, tmp_path), first="#!/bin/sh\n")
+    words = ["--ccp", found, "--ssh", ssh, "--sshlogin", "1/h1,1/user@h2,1/:", "--size", 1]
+    ran = over("--quiet", *words, "--parts", found.parent / "parts", path)
+    assert (ran.status, ran.output, ran.errors) == (0, ccp("campaign", given=path.read_text()).output, "")
+    asked = (tmp_path / "asked").read_text()
+    assert "h1 -- " in asked and "h2 -- " in asked and not list(tmp_path.rglob("RAN*"))
+
+
+@needs("parallel")
+def test_an_interpreter_is_data(tmp_path: Path, program: Path, monkeypatch: pytest.MonkeyPatch) -> None:
+    monkeypatch.chdir(tmp_path)
+    path = saved(tmp_path, grid({"fixed": TEXTS["fixed"]}, [10], 60))
+    words = ["--metrics", "--python", NAMES[0], "--tries", 1, "--parts", tmp_path / "parts", path]
+    ran = over("--quiet", *words)
+    assert ran.status == 1 and NAMES[0] in ran.errors and not list(tmp_path.rglob("RAN*"))
+
+
+LOGINS = ["1/h;touch RAN", "h$(touch RAN)", "{= 1 =}", "h -F x", "-Fx", "1/-oProxyCommand", "h\nk", "..", "a/b", "(h)"]
+
+
+@pytest.mark.parametrize("login", [*LOGINS, "h" * 300 + ";"])
+def test_a_machine_is_a_name(login: str) -> None:
+    ran = over("--sshlogin", "h1," + login, "/dev/null")
+    assert ran.status == 2 and ran.errors.startswith("ccp over: --sshlogin "), ran.errors
+    assert "a machine is HOST, USER@HOST or :" in ran.errors and len(ran.errors) < 400
+
+
+def test_machines_of_gnu_parallel(monkeypatch: pytest.MonkeyPatch, tmp_path: Path) -> None:
+    monkeypatch.setenv("PATH", str(tmp_path))
+    for login in ("h1", "8/h1", "8/user@h.example.org", ":", "2/:", "h_1:2222", "@group/4/h1", "10.0.0.7"):
+        assert "isn't installed" in over("--sshlogin", login, "/dev/null").errors, login
+
+
 # ---- failures
+
+
+@needs("parallel")
+@pytest.mark.parametrize(
+    "text, said",
+    [
+        ("kill -9 $$", " on {host}, by the signal SIGKILL (status 137)"),
+        ("kill -13 $$", "without an error line, after 0 bytes of output, on {host}, by the signal SIGPIPE"),
+        ("exit 7", "it ended without an error line, after 0 bytes of output, on {host}, with status 7"),
+        ("echo no memory >&2; exit 6", "the cases 0 to 1: no memory on {host}, with status 6"),
+    ],
+)
+def test_a_part_that_fails_says_how(tmp_path: Path, program: Path, text: str, said: str) -> None:
+    path = saved(tmp_path, grid({"fixed": TEXTS["fixed"]}, [10], 60))
+    never = script(tmp_path, "never", text + "\n")
+    ran = over("--quiet", "--ccp", never, "--tries", 1, "--size", 2, path)
+    assert ran.status == 1 and said.format(host=os.uname().nodename) in ran.errors, ran.errors
+
+
+@needs("parallel")
+def test_parts_that_were_cut_off_are_written_again(tmp_path: Path, program: Path) -> None:
+    """As by a full disk. A folder with files of the user is refused."""
+    path, parts = saved(tmp_path, grid({"fixed": TEXTS["fixed"]}, [10], 60)), tmp_path / "parts"
+    parts.mkdir()
+    (parts / "000000.json").write_text("{")
+    ran = over("--quiet", "--parts", parts, path)
+    assert ran.status == 2 and "isn't empty" in ran.errors and (parts / "000000.json").read_text() == "{"
+    (parts / ".ccp-over-begun").touch()
+    assert over("--quiet", "--parts", parts, path).status == 0
+    assert over("--quiet", "--resume", "--parts", parts, path).status == 0 and not list(parts.glob(".ccp*"))
+
+
+@needs("parallel")
+def test_one_run_has_the_parts(tmp_path: Path, program: Path) -> None:
+    """A second one in the same folder is refused at once."""
+    path, parts = saved(tmp_path, grid({"fixed": TEXTS["fixed"]}, [10], 60)), tmp_path / "parts"
+    parts.mkdir()
+    with subprocess.Popen([sys.executable, "-c", HOLD, parts], stdin=subprocess.PIPE, stdout=subprocess.PIPE) as held:
+        assert held.stdout and held.stdin and held.stdout.readline() == b"held\n"
+        ran = over("--quiet", "--parts", parts, "--resume", path)
+        held.stdin.close()
+    assert ran.status == 1 and "%s: another run of ccp over uses this folder" % parts in ran.errors, ran.errors
+    assert over("--quiet", "--parts", parts, path).status == 0
+
+
+HOLD = """import fcntl, sys
+file = open(sys.argv[1] + "/.ccp-over.lock", "w")
+fcntl.lockf(file, fcntl.LOCK_EX)
+print("held", flush=True)
+sys.stdin.read()
+"""
 
 
 @needs("parallel")

@@ -83,12 +83,26 @@ def test_the_table_at_the_top_of_readme(program: Path, tmp_path: Path) -> None:
 
 
 @needs("import pandas", "import matplotlib")
+def test_the_first_comparison_of_readme(program: Path, tmp_path: Path) -> None:
+    """It needs no options, prints the first two rows of the table at the top, and says where its report is."""
+    page = (REPOSITORY / "README.md").read_text(encoding="utf-8")
+    blocks = [block for _, block in BLOCK.findall(page)]
+    clone, install, first = blocks[1].splitlines()
+    assert clone.startswith("git clone ") and install.startswith("tools/install ")
+    done = ran(["bash", "-c", first], cwd=tmp_path, env=room_of(tmp_path, program), timeout=SECONDS)
+    assert done.status == 0, done.errors
+    *rows, last = done.output.splitlines()
+    assert [row.split()[:-1] for row in rows] == [row.split() for row in blocks[0].splitlines()[:3]]
+    assert last == "report: ccp-out/report.html" and (tmp_path / "ccp-out" / "report.html").is_file()
+
+
+@needs("import pandas", "import matplotlib")
 def test_the_own_comparison_of_readme(program: Path, tmp_path: Path) -> None:
-    """Its commands make the report of a trace, once what they need is installed."""
+    """Its commands make the report of a trace."""
     page = (REPOSITORY / "README.md").read_text(encoding="utf-8").partition("**Your own comparison**")[2]
     lines = BLOCK.findall(page)[0][1].splitlines()
-    assert lines[0].startswith("tools/install ") and lines[-1] == "xdg-open out/report.html"
+    assert lines[0].startswith("./ccp trace info my.trace ") and lines[-1] == "xdg-open out/report.html"
     (tmp_path / "my.trace").write_bytes((REPOSITORY / "examples" / "traces" / "wave.trace").read_bytes())
-    block = shortened("\n".join(lines[1:-1]))
+    block = shortened("\n".join(lines[:-1]))
     done = ran(["bash", "-e", "-c", block], cwd=tmp_path, env=room_of(tmp_path, program), timeout=SECONDS)
     assert done.status == 0 and (tmp_path / "out" / "report.html").is_file(), done.errors

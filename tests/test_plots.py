@@ -17,9 +17,8 @@ np = require("numpy")
 from matplotlib.backends.backend_agg import FigureCanvasAgg  # noqa: E402
 
 from ccp_tools import plots, program as programs, scenario  # noqa: E402
-from ccp_tools.errors import CcpError  # noqa: E402
-from ccp_tools.frames import acks_in, read_timeline  # noqa: E402
-from ccp_tools.plots import series  # noqa: E402
+from ccp_tools.frames import AckFrame, acks_in, read_timeline  # noqa: E402
+from ccp_tools.plots import packets as packets_of_plots, series  # noqa: E402
 from ccp_tools.plots.points import spread_of  # noqa: E402
 
 CASE = {"trace": "t", "mss": 1000, "queue": 10, "delay_us": 20000, "timeout_us": 1000000}
@@ -163,6 +162,13 @@ def test_pages_and_sizes(files, tmp_path):
     Path(files["metrics"]).write_text(json.dumps({"cases": many}))
     made = command("plot", "bars", files["metrics"], tmp_path / "bars.svg")
     assert made.status == 0 and "3 pages" in made.errors and (tmp_path / "bars-3.svg").exists()
+    (tmp_path / "bars-2.svg").write_text("mine")
+    words = ["plot", "bars", files["metrics"], tmp_path / "bars.svg"]
+    made = command(*words)
+    assert made.status == 1 and "bars-2.svg: a further page has this name" in made.errors
+    assert (tmp_path / "bars-2.svg").read_text() == "mine"
+    (tmp_path / "bars-2.svg").unlink()
+    assert command(*words).status == command(*words).status == 0
     for size, width in (("column", "252pt"), ("page", "516pt"), ("300x200", "300pt")):
         path = tmp_path / "cdf.svg"
         assert command("plot", "cdf", "--size", size, files["acks"], path).status == 0
@@ -222,10 +228,43 @@ def test_what_plots_refuse(files, tmp_path, monkeypatch, words, status, error):
     assert made.status == status and error in made.errors and "Traceback" not in made.errors, made.errors
 
 
-def test_more_senders_than_a_plot_shows():
+def test_more_senders_than_a_panel_shows_come_on_further_pages():
     rows = [{**METRICS["cases"][0], "sender": "s%d" % at, "case": "c%d" % at} for at in range(9)]
-    with pytest.raises(CcpError, match="9 senders"):
-        plots.bars(plots.points_of(pd.DataFrame(rows)), ["throughput_mbps"])
+    points = plots.points_of(pd.DataFrame(rows))
+    for made in (plots.bars(points, ["throughput_mbps"]), plots.scatter(points)):
+        keys = [[text.get_text() for text in figure.legends[0].get_texts()] for figure in made]
+        assert [name for some in keys for name in some if name != "link"] == ["s%d" % at for at in range(9)]
+        assert [len([name for name in some if name != "link"]) for some in keys] == [5, 4]
+
+
+def test_flows_on_one_link_are_called_by_their_sender_and_start():
+    senders, starts = ["linux-reno", "linux-reno", "cubic"], [0, 20_000_000, 500_000]
+    cases = [{**CASE, "name": "t-%d" % at, "agent": "reno", "sender": name} for at, name in enumerate(senders)]
+    wanted = ["linux-reno (1)", "linux-reno (2)", "cubic"]
+    assert plots.shared_link.flow_labels(cases) == wanted
+    later = [dict(case, start_us=start) for case, start in zip(cases, starts)]
+    wanted = ["linux-reno, from 0 s", "linux-reno, from 20 s", "cubic, from 0.5 s"]
+    assert plots.shared_link.flow_labels(later) == wanted
+
+
+def test_no_sender_hides_the_others():
+    """Five senders with the same round-trip times: the image of the dots has about as much of each colour."""
+    packets = pd.DataFrame({"now": range(0, 6_000_000, 1000), "packets_acked": 1, "rtt_sample_us": 30_000})
+    flows = [packets_of_plots.Named(AckFrame(at, "c%d" % at, "reno", packets), "t", "s%d" % at) for at in range(5)]
+    (figure,) = plots.drawn(plots.Look(), lambda: plots.delay(flows))
+    dots = [line for line in figure.axes[0].lines if line.get_rasterized()]
+    last = [line.get_color() for line in dots[4::5]]
+    assert len(dots) == 5 * packets_of_plots.LAYERS and min(map(last.count, set(last))) >= 2 and len(set(last)) == 5
+    assert sum(len(line.get_xdata()) for line in dots) == 5 * len(packets)
+
+
+def test_one_trace_uses_the_width():
+    """Five bars of one trace take most of the panel, and one alone a part of it."""
+    rows = [{**METRICS["cases"][0], "sender": "s%d" % at, "case": "c%d" % at} for at in range(5)]
+    for count, least in ((5, 0.6), (1, 0.1)):
+        (figure,) = plots.bars(plots.points_of(pd.DataFrame(rows[:count])), ["throughput_mbps"])
+        low, high = figure.axes[0].get_xlim()
+        assert least < count / (high - low) < 0.9
 
 
 def test_windows_of_a_short_run_are_no_combs(program):

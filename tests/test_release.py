@@ -301,6 +301,83 @@ def test_a_checkout_that_cannot_be_written(place: Place) -> None:
     ran = place.check(AS_USER="yes", XDG_CACHE_HOME="/proc")
     assert ran.output == wanted[0] and ran.status == 0
     assert ran.errors.count("\n") == 1 and "can't be written" in ran.errors and "XDG_CACHE_HOME=" in ran.errors
+    place.room.chmod(0o777)
+    ran = place.check(AS_USER="yes", XDG_CACHE_HOME="relative", HOME=str(place.cache))
+    assert ran == wanted and not (place.room / "relative").exists()
+    assert list(place.cache.glob(".cache/ccp/*/found")), "a relative folder is ignored"
+
+
+# ---- a sum that fails
+
+FAILURES = {"fails": "exit 1\n", "prints nothing": "cat > /dev/null\n", "is killed": "kill -KILL $$\n"}
+
+
+@pytest.mark.parametrize("how", FAILURES)
+@pytest.mark.parametrize("name", ["awk", "find", "sort", "xargs", "sha256sum"])
+def test_a_sum_that_fails_is_an_error_and_is_not_kept(place: Place, name: str, how: str) -> None:
+    """Nothing is compiled in its place, and the next call, whose commands work, has the program of release/."""
+    (place.room / "bin").mkdir()
+    script(place.room / "bin", "rt", "echo rt >> %s/compiled\n" % place.room)
+    broken = script(place.room / "bin", name, FAILURES[how])
+    ran = place.check()
+    assert (ran.output, ran.status) == ("", 1) and ran.errors.count("\n") == 1, ran
+    assert ran.errors.startswith("ccp: the sum over the sources failed (source-sum: "), ran
+    assert name in ran.errors and "CCP_PROGRAM=PATH" in ran.errors, ran
+    assert not list(place.built.parent.glob("found*")) and not (place.room / "compiled").exists()
+    broken.unlink()
+    assert place.is_released()
+
+
+@pytest.mark.parametrize("how", ["fails", "is killed"])
+def test_a_search_that_fails_is_no_finding(place: Place, how: str) -> None:
+    """Neither of a kept finding, nor of a built program, nor of a changed source."""
+    time.sleep(0.02)
+    place.put(place.built)
+    assert place.check().output == "%s check\n" % place.built
+    time.sleep(0.02)
+    place.write("crates/base/src/lib.rt", "changed\n")
+    (place.room / "bin").mkdir()
+    broken = script(place.room / "bin", "find", FAILURES[how])
+    for _ in range(2):
+        ran = place.check()
+        assert (ran.output, ran.status, ran.errors.count("\n")) == ("", 1, 1) and "(find)" in ran.errors, ran
+    broken.unlink()
+    assert "release/ has the program of an older state of the sources" in place.check().errors
+
+
+def test_a_sum_that_fails_is_an_error_for_pages_and_scripts(place: Place) -> None:
+    (place.room / "bin").mkdir()
+    script(place.room / "bin", "sha256sum", "exit 1\n")
+    shown = place.run("--version")
+    assert shown.status == 1 and "program" not in shown.output and "sha256sum failed" in shown.errors
+    for option in ("--chosen", "--proved"):
+        words = [str(place.top / "tools/launcher/checked-program"), option]
+        done = subprocess.run(words, capture_output=True, text=True, env=place.environment())
+        assert (done.stdout, done.returncode) == ("", 2) and done.stderr.count("\n") == 1
+    words = [str(place.top / "tools/install-ccp"), str(place.room / "prefix")]
+    done = subprocess.run(words, capture_output=True, text=True, env=place.environment())
+    assert done.returncode == 1 and "sha256sum failed" in done.stderr and not (place.room / "prefix").exists()
+
+
+def test_a_sum_that_an_earlier_launcher_kept_is_not_taken(place: Place) -> None:
+    assert place.is_released()
+    known = place.built.parent / "found"
+    times = known.stat()
+    known.write_text("x86_64 release\nolder\n", encoding="utf-8")
+    os.utime(known, ns=(times.st_atime_ns, times.st_mtime_ns))
+    assert place.is_released()
+
+
+@pytest.mark.parametrize("how", ["exit 6", "kill -KILL $$", "echo 'Cannot allocate memory'; exit 126"])
+def test_a_program_that_has_no_memory_is_not_kept_as_one_that_does_not_run_here(place: Place, how: str) -> None:
+    program = "if [ -e %s/full ]; then %s; fi\n%s" % (place.room, how, PROGRAM)
+    script(place.released.parent, "ccp", program)
+    place.note_release()
+    (place.room / "full").touch()
+    ran = place.check()
+    assert (ran.output, ran.status) == ("", 1) and "release/ccp ended with status" in ran.errors
+    (place.room / "full").unlink()
+    assert place.is_released()
 
 
 # ---- what other scripts and the package take
@@ -436,9 +513,12 @@ class Maker:
         subprocess.run(["git", "clone", "--quiet", "--no-tags", str(REPOSITORY), str(self.top)], check=True)
         for name, value in (("user.name", "A Maintainer"), ("user.email", "maintainer@example.org")):
             self.git("config", name, value)
-        shutil.copy(REPOSITORY / "tools/release", self.top / "tools/release")
-        if self.git("status", "--porcelain"):
-            self.git("commit", "--quiet", "--all", "--message", "This checkout's script")
+        for name in ("release", "install-ccp"):
+            shutil.copy(REPOSITORY / "tools" / name, self.top / "tools" / name)
+        # a wheel has tests of its own
+        script(self.top / "tools", "wheel", 'echo wheel > "$2/ccp_tools.whl"; echo "tools/wheel: $2/ccp_tools.whl"\n')
+        self.git("add", "--all")
+        self.git("commit", "--quiet", "--message", "This checkout's scripts")
         self.version = (self.top / "VERSION").read_text(encoding="utf-8").strip()
         script(room, "rt", "echo %s/doc" % room)
         (room / "toolchain/bin").mkdir(parents=True)
@@ -457,7 +537,18 @@ class Maker:
         lines = ("sources: " + sources, "program: " + digest(built / "ccp"), "toolchain: stub-kit 1", "gate: 1 passed")
         (built / "passed").write_text("\n".join(lines) + "\n", encoding="utf-8")
 
-    def run(self, *words: str) -> Ran:
+    def release(self, program: Path) -> None:
+        """What a release leaves: a program in release/, of these sources, and no trace of ./test or its toolchain."""
+        shutil.rmtree(self.top / "crates/ccp/out")
+        (self.room / "rt").unlink()
+        shutil.copy(program, self.top / "release/ccp")
+        sources = subprocess.check_output([str(self.top / "tools/launcher/source-sum")], text=True).strip()
+        notes = "version: %s\nsources: %s\ntoolchain: stub-kit 2\n" % (self.version, sources)
+        (self.top / "release/PROVENANCE").write_text(notes, encoding="utf-8")
+        (self.top / "release/SHA256SUMS").write_text("%s  ccp\n" % digest(program), encoding="utf-8")
+        self.git("commit", "--quiet", "--all", "--message", "A release")
+
+    def run(self, *words: str, **more: str) -> Ran:
         path = os.pathsep.join([str(self.room), os.environ["PATH"], "/usr/bin", "/bin"])
         done = subprocess.run(
             [str(self.top / "tools/release"), self.version, *words],
@@ -465,7 +556,7 @@ class Maker:
             stderr=subprocess.PIPE,
             text=True,
             # as little work as can be for the files that nobody keeps
-            env={**os.environ, "PATH": path, "XZ_DEFAULTS": "-0", "DPKG_DEB_COMPRESSOR_LEVEL": "1"},
+            env={**os.environ, "PATH": path, "XZ_DEFAULTS": "-0", "DPKG_DEB_COMPRESSOR_LEVEL": "1", **more},
         )
         return Ran(done.stdout, done.stderr, done.returncode)
 
@@ -527,6 +618,47 @@ def test_a_tag_that_is_elsewhere_is_an_error_before_anything_is_written(tmp_path
     assert ran.status == 1 and "the tag %s is at another commit, " % tag in ran.errors
     assert ran.errors.count("\n") == 1 and "--no-tag" in ran.errors and maker.state() == before
     assert maker.run("--no-tag").status == 0
+
+
+@needs("git", "dpkg-deb", "xz")
+def test_packages_of_the_program_in_release_need_no_proof(tmp_path: Path) -> None:
+    """They are made of it, and nothing else changes. Who has no name for git has that of the login."""
+    maker = Maker(tmp_path)
+    maker.release(tmp_path / "stub")
+    for name in ("user.name", "user.email"):
+        maker.git("config", "--unset", name)
+    before, out = maker.state(), tmp_path / "out"
+    plain = {"GIT_CONFIG_GLOBAL": "/dev/null", "GIT_CONFIG_SYSTEM": "/dev/null", "DEBFULLNAME": "", "DEBEMAIL": ""}
+    ran = maker.run("--out", str(out), **plain)
+    assert ran.status == 0 and ran.errors == "", ran
+    assert "no tag is made: release/ has the program of these sources already\n" in ran.output
+    assert maker.state() == before
+    package = "ccp_%s_amd64.deb" % maker.version
+    names = {"ccp-%s-x86_64-linux.tar.xz" % maker.version, package, "ccp-tools_%s_all.deb" % maker.version}
+    assert {path.name for path in out.iterdir()} == {*names, "ccp_tools.whl", "SHA256SUMS"}
+    fields = subprocess.check_output(["dpkg-deb", "--field", str(out / package), "Maintainer"], text=True)
+    login = subprocess.check_output(["id", "-un"], text=True).strip()
+    assert fields == "%s <%s@%s>\n" % (login, login, os.uname().nodename)
+    unpacked = tmp_path / "unpacked"
+    subprocess.run(["dpkg-deb", "--extract", str(out / package), str(unpacked)], check=True)
+    assert digest(unpacked / "usr/libexec/ccp/ccp") == digest(tmp_path / "stub")
+    assert "program: proved with stub-kit 2\n" in (unpacked / "usr/libexec/ccp/version").read_text(encoding="utf-8")
+    assert not (unpacked / "usr/libexec/ccp/installed").exists(), "dpkg has a list of its own"
+
+
+@needs("git", "dpkg-deb", "xz")
+def test_a_program_in_release_that_is_of_other_sources_or_damaged_is_not_packed(tmp_path: Path) -> None:
+    maker = Maker(tmp_path)
+    maker.release(tmp_path / "stub")
+    out = tmp_path / "out"
+    (maker.top / "release/ccp").write_text("damaged\n", encoding="utf-8")
+    ran = maker.run("--out", str(out))
+    assert ran.status == 1 and "release/ccp doesn't have the SHA-256" in ran.errors and ran.errors.count("\n") == 1
+    maker.git("checkout", "--quiet", "--", "release")
+    (maker.top / "HANDLES").write_text("changed\n", encoding="utf-8")
+    ran = maker.run("--out", str(out))
+    assert ran.status == 1 and ran.errors.count("\n") == 1 and not out.exists()
+    assert "run ./test first: a release is what it passed, and release/ has no program of these sources" in ran.errors
 
 
 # ---- the packages in an empty Debian

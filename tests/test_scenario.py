@@ -51,6 +51,11 @@ def test_a_grid():
     assert status == 0 and table.count("\n") == 26, "campaign: %s" % errors
 
 
+def test_senders_where_none_is_named():
+    scenario = made("--acks", 50, TRACES[0])
+    assert [case["sender"] for case in scenario["cases"]] == ["linux-reno", "linux-cubic"] == list(scenario["programs"])
+
+
 def test_ranges():
     cases = made(
         "--senders",

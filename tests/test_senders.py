@@ -7,7 +7,7 @@ import io
 import json
 import re
 from pathlib import Path
-from typing import Dict, List, Tuple
+from typing import Any, Dict, List, Tuple
 
 import pytest
 from support import EXAMPLES, REPOSITORY, ccp, command, needs
@@ -66,16 +66,15 @@ def test_the_package_has_the_programs_of_senders_like_linux() -> None:
 
 
 def test_senders_like_linux_by_name(tmp_path: Path) -> None:
-    """Each by its name, with the texts of its programs, wherever the command runs."""
+    """Each by its name, with the text of its program, wherever the command runs."""
     ran = command("scenario", "--senders", "linux-reno,mine=linux-cubic", TRACES[0], cwd=tmp_path)
     assert ran.status == 0, ran.errors
     made = json.loads(ran.output)
     assert [[case.get(name) for name in ("sender", "agent", "ss", "ca")] for case in made["cases"]] == [
-        ["linux-reno", "reno", None, "linux-reno.ca"],
-        ["mine", "cubic", "mine.ss", "mine.ca"],
+        ["linux-reno", "reno", "linux-reno", "linux-reno"],
+        ["mine", "cubic", "mine", "mine"],
     ]
-    names = {"linux-reno.ca": "reno_ca", "mine.ss": "cubic_ss", "mine.ca": "cubic_ca"}
-    for name, file in names.items():
+    for name, file in {"linux-reno": "linux_reno", "mine": "linux_cubic"}.items():
         assert made["programs"][name] == (PROGRAMS / (file + ".portus")).read_text(encoding="utf-8")
 
 
@@ -86,21 +85,101 @@ def test_names_of_senders_like_linux_are_theirs(text: str) -> None:
     assert sender_of("linux-reno=linux-reno") == LIKE_LINUX["linux-reno"]
 
 
-@pytest.mark.parametrize("mss", [1, 536, 65535])
-def test_senders_like_linux_never_fault(program: Path, mss: int) -> None:
-    grid = ["--mss", mss, "--queue", "1,100", "--mark", "none,3", "--losses", "none,0+1+2+3+4+5,rate:0.2:1"]
-    text = scenario_of(list(LIKE_LINUX), *grid, "--delay-ms", "0,20", "--acks", 400, *TRACES)
-    for row in programs.run_table(text, program=program).rows:
-        assert (row["held"], row["faults"]) == (0, 0), row
+@pytest.mark.parametrize("path", FOLDS, ids=lambda path: path.stem)
+def test_the_count_of_a_sender_like_linux(path: Path) -> None:
+    ran = ccp("check", given=path.read_text(encoding="utf-8"))
+    found = re.search(r" count=(\d+)", ran.output)
+    assert ran.status == 0 and found and int(found[1]) <= 256, ran.errors
+
+
+@pytest.fixture(scope="module", name="links_for_faults")
+def links_for_faults_fixture() -> List[Dict[str, Any]]:
+    """Scenarios with losses, timeouts, marks and queues of one packet, and long ones with a queue of 4,096."""
+    grid = ["--queue", "1,100", "--mark", "none,3", "--losses", "none,0+1+2+3+4+5,rate:0.2:1"]
+    some = scenario_of(list(LIKE_LINUX), *grid, "--delay-ms", "0,20", "--acks", 400, *TRACES)
+    long = scenario_of(list(LIKE_LINUX), "--queue", "4096", "--acks", 65536, "--delay-ms", "0,80", TRACES[0])
+    return [json.loads(text) for text in (some, long)]
+
+
+@pytest.mark.parametrize("mss", [1, 2, 536, 1448, 4611, 4612, 8948, 9000, 65535])
+def test_senders_like_linux_never_fault(program: Path, links_for_faults: List[Dict[str, Any]], mss: int) -> None:
+    """No agent answers either, so that each case is one epoch."""
+    for scenario in links_for_faults:
+        made = {**scenario, "cases": [{**case, "mss": mss} for case in scenario["cases"]]}
+        for row in programs.run_table(json.dumps(made), program=program).rows:
+            assert (row["held"], row["faults"], row["epochs"]) == (0, 0, 1), row
+
+
+@pytest.mark.parametrize("trace", ["10\n", "1\n" * 200, "3600000\n"], ids=["slow", "fast", "once-an-hour"])
+def test_senders_like_linux_never_fault_on_links_of_other_rates(program: Path, tmp_path: Path, trace: str) -> None:
+    path = tmp_path / "t.trace"
+    path.write_text(trace)
+    grid = ["--mss", 65535, "--queue", "4096", "--delay-ms", "0,20", "--losses", "none,rate:0.001:1"]
+    text = scenario_of(list(LIKE_LINUX), *grid, "--acks", 20000, path)
+    assert all(row["faults"] == 0 for row in programs.run_table(text, program=program).rows)
 
 
 def test_one_overflow_is_one_loss_event(program: Path) -> None:
     """The overflow that ends slow start, of a queue shorter than the window: the losses are learned over more than a
-    round trip. The built-in programs cut thrice, a recovery point twice, and HyStart comes before the overflow."""
+    round trip. The built-in programs cut thrice, those like Linux once, and HyStart comes before the overflow."""
     senders = ["reno", "linux-reno", "cubic", "linux-cubic"]
     text = scenario_of(senders, "--queue", 50, "--delay-ms", 80, "--acks", 1200, TRACES[0])
     rows = programs.run_table(text, program=program).rows
-    assert [(row["epochs"], row["lost"]) for row in rows] == [(4, 145), (3, 145), (4, 182), (2, 7)]
+    assert [(row["epochs"], row["lost"]) for row in rows] == [(4, 145), (1, 132), (4, 182), (1, 7)]
+
+
+# ---- HyStart, by acknowledgements made for it
+
+
+def rounds(samples_ms: List[float], flight: int = 19, apart_us: int = 3000) -> str:
+    """Acknowledgements with these round-trip times, `apart_us` apart. A round has one more than are in flight."""
+    form = "bytes_acked=1 packets_acked=1 now=%d packets_in_flight=%d rtt_sample_us=%d\n"
+    times = enumerate(samples_ms)
+    return "".join(form % (20_000 + apart_us * at, flight, 1000 * sample) for at, sample in times)
+
+
+def window_after(acks: str) -> int:
+    """CUBIC's window after acknowledgements, in segments of one byte. It begins with one."""
+    given = (EXAMPLES / "like-linux" / "linux_cubic.portus").read_text(encoding="utf-8") + "---\n" + acks
+    found = re.search(r"^end .* cwnd=(\d+)", ccp("fold", given=given).output, re.MULTILINE)
+    assert found
+    return int(found[1])
+
+
+def test_slow_start_goes_on_while_nothing_changes(program: Path) -> None:
+    assert window_after(rounds([20.0] * 60)) == 61
+
+
+@pytest.mark.parametrize("late, ends", [(23.9, False), (24.0, False), (24.1, True)])
+def test_hystart_ends_with_the_ninth_late_sample(program: Path, late: float, ends: bool) -> None:
+    """From the second round on all samples are late: by more than 4 ms, since an eighth of 20 ms is less. Slow start
+    ends with the ninth of them, not with the eighth, and the window before it is the threshold."""
+    assert window_after(rounds([20.0] * 20 + [late] * 8)) == 29
+    assert window_after(rounds([20.0] * 20 + [late] * 9)) == (29 if ends else 30)
+    assert window_after(rounds([20.0] * 20 + [late] * 12)) == (29 if ends else 33)
+
+
+def test_hystart_compares_the_least_of_all_samples(program: Path) -> None:
+    """One sample that isn't late, the tenth of its round, comes too late; as the eighth it keeps slow start going."""
+    early = [20.0] * 20 + [26.0] * 7 + [20.0] + [26.0] * 12
+    assert window_after(rounds(early)) == 41
+    assert window_after(rounds([20.0] * 20 + [26.0] * 9 + [20.0] * 5)) == 29
+
+
+def test_hystart_needs_sixteen_segments(program: Path) -> None:
+    """Rounds of ten in a window below 16 are all late, and nothing ends; the samples of a round count from 16 on."""
+    assert window_after(rounds([20.0] + [30.0] * 14, flight=9)) == 16
+    assert window_after(rounds([20.0] + [30.0] * 22, flight=49)) == 24
+    assert window_after(rounds([20.0] + [30.0] * 23, flight=49)) == 24
+
+
+@pytest.mark.parametrize("apart_us, ends", [(1999, True), (2000, False)])
+def test_hystart_ends_with_a_long_train(program: Path, apart_us: int, ends: bool) -> None:
+    """Acknowledgements less than 2 ms apart for more than (60 + 1) / 2 ms: the 17th of a round, 32 ms after its first.
+    At 2 ms exactly, as whole milliseconds give, a host with its jitter has no train."""
+    acks = rounds([60.0] * 60, flight=39, apart_us=apart_us)
+    assert window_after("".join(acks.splitlines(True)[:56])) == 57
+    assert window_after("".join(acks.splitlines(True)[:58])) == (57 if ends else 59)
 
 
 # ---- the figures of the page
@@ -165,13 +244,14 @@ def test_figures_of_the_page(program: Path, tmp_path: Path) -> None:
 @pytest.mark.slow
 @needs("import pandas")
 def test_figures_of_senders_like_linux(program: Path, tmp_path: Path) -> None:
-    """The columns of the table before and after that `ccp` measures."""
+    """The columns of the table before and after that `ccp` measures, with the time of a host in the delay."""
     wanted = [line.strip("|\n ").split(" | ") for line in PAGE.open(encoding="utf-8") if BEFORE_AND_AFTER.match(line)]
     assert len(wanted) == 24
     found: Dict[Tuple[str, str, str], Figures] = {}
     for trace, queue, ms, sender, figure, *cells in wanted:
         if (trace, queue, ms) not in found:
-            words = ["--queue", queue, "--delay-ms", ms, "--acks", 30000, EXAMPLES / "traces" / (trace + ".trace")]
+            path = EXAMPLES / "traces" / (trace + ".trace")
+            words = ["--queue", queue, "--delay-ms", ms + ".05", "--acks", 30000, path]
             found[trace, queue, ms] = measured(tmp_path, ["reno", "linux-reno", "cubic", "linux-cubic"], *words)
         at = ["Mbit/s", "used %", "lost packets", "wait", "p95"].index(figure)
         rows = found[trace, queue, ms]

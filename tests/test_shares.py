@@ -228,7 +228,15 @@ def plotted(files, tmp_path, *words):
 
 def test_a_plot_of_shares(files, tmp_path):
     shown, errors = plotted(files, tmp_path, "--scenario", files["scenario"], *WINDOW)
-    assert {"a", "b", "link", "share [%]", "Jain's index", "queue [ms]", "virtual time [s]"} <= shown and not errors
+    assert {
+        "reno, from 0 s",
+        "cubic, from 0.02 s",
+        "link",
+        "share [%]",
+        "Jain's index",
+        "queue [ms]",
+        "virtual time [s]",
+    } <= shown and not errors
     shown, errors = plotted(files, tmp_path)
     assert {"a", "b", "share [%]"} <= shown and not {"link", "queue [ms]"} & shown and "--scenario" in errors
 

@@ -7,6 +7,7 @@ import bz2
 import gzip
 import json
 import lzma
+import time
 from pathlib import Path
 from typing import Any, Dict, List
 
@@ -304,6 +305,23 @@ def test_packed_files(pack: Any, tmp_path: Path) -> None:
     refused(1, "and damaged: ", "info", "-", given=whole[:40] + b"\xff\0" * 40 + whole[120:])
 
 
+@pytest.mark.parametrize("pack", [gzip.compress, lzma.compress, bz2.compress], ids=["gzip", "xz", "bzip2"])
+def test_packed_files_that_unpack_to_too_much(pack: Any, tmp_path: Path) -> None:
+    """They are refused at the bound, after a second at most; a packet capture may have more bytes."""
+    path = tmp_path / "x"
+    # each of the three can be one after another
+    for piece, count, most in ((b"\n" * 2**20, 400, "16777216 lines"), (b"1" * 2**20, 400, "67108864 bytes")):
+        path.write_bytes(pack(piece) * count)
+        begun = time.process_time()
+        with pytest.raises(CcpError, match="^%s: it has more than %s, the most that are read$" % (path, most)):
+            read_trace(path)
+        assert time.process_time() - begun < 1
+
+
+def test_lines_of_a_plain_file() -> None:
+    refused(1, "standard input: it has more than 16777216 lines", "info", "-", given=b"\n" * (2**24 + 1))
+
+
 def test_packed_files_of_the_repository() -> None:
     assert read_trace(DATA / "link.trace.gz") == read_trace(DATA / "link.trace.xz") == LINK
 
@@ -348,6 +366,6 @@ def test_what_a_file_is_is_named(tmp_path: Path) -> None:
 
 
 def test_an_endless_file_is_refused(monkeypatch: pytest.MonkeyPatch) -> None:
-    monkeypatch.setattr("ccp_tools.trace_files.MOST_BYTES", 1000)
+    monkeypatch.setattr("ccp_tools.trace_files.MOST_TEXT", 1000)
     with pytest.raises(CcpError, match="/dev/zero: it has more than 1000 bytes"):
         read_trace("/dev/zero")

@@ -101,6 +101,17 @@ def test_scale() -> None:
     assert times(made("scale", "--time", 2.5, "-", given="1\n2\n5\n")) == [2, 5, 12]
 
 
+@pytest.mark.parametrize("words", [("lte", "--mean", "9"), ("wifi", "--mean", "9"), ("satellite", "--mean", "15")])
+def test_a_mean_is_exact(words: tuple[str, ...]) -> None:
+    """To three digits, for whatever seed; with a highest rate it is what that rate leaves."""
+    for seed in (1, 2):
+        found = info("-", given=made(*words, "--seconds", 20, "--seed", seed))
+        assert "%.3g" % found["mean_mbps"] == words[2], found
+    packet = ["--packet", "1000"]
+    assert "%.3g" % info(*packet, "-", given=made("wifi", "--mean", "5.67", *packet))["mean_mbps"] == "5.67"
+    assert info("-", given=made("lte", "--mean", 12, "--max", 13, "--seconds", 20))["mean_mbps"] < 12
+
+
 # ---- what it makes
 
 
