@@ -2,7 +2,7 @@
    The scenario's program 3 has to be round.portus, whose fields are acked, lost, timeout, rtt, inflight.
 
        cc -O2 -o aimd aimd.c && mkfifo frames
-       (cat scenario.json; echo ---; ./aimd < frames) | ./ccp drive > frames
+       (cat scenario.json; echo ---; ./aimd) < frames | ./ccp drive > frames
 
    Numbers are little-endian, as on the machines it is meant for. */
 #include <stdint.h>
